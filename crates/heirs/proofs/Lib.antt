@@ -1,0 +1,5 @@
+pub mod Take
+pub mod Counts
+pub mod Steps
+pub mod InPlace
+pub mod Judging

@@ -1,0 +1,5 @@
+pub mod Masks
+pub mod Words
+pub mod Candidates
+pub mod Judging
+pub mod Transitions

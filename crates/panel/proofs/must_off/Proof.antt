@@ -1,0 +1,14 @@
+use mathlib.Core.Path.{refl}
+use Rattle.panel.specs.Rules.{mustOff}
+use Rattle.panel.proofs.must_off.Statement.{statement}
+use Rattle.panel.proofs.must_off.Tie as tie
+use Rattle.panel.proofs.must_off.Reads as reads
+use Rattle.panel.proofs.must_off.Lts as lts
+
+-- src/lib.rt:50:1
+returns : tie.Need-returns
+unfolding mustOff
+returns c = refl
+
+pub must-off-spec : {M : Type 1} → statement M
+must-off-spec = tie.close (tie.spec returns)

@@ -1,0 +1,26 @@
+-- Panels, states and masks: which relays are on, bit by bit.
+use Prim.Native.Nat.{ℕ, _/_, _%_, _^_}
+use mathlib.Core.Bool.{Bool, not, _&&_, _||_}
+use mathlib.Core.List.{List, [], _∷_}
+use lib.Dec.{eqb, ltb}
+use Rattle.table.specs.Lists.{all}
+
+-- a panel has 1 to 10 relays
+unfoldable pub panelSize : ℕ → Bool
+panelSize n = ltb 0 n && ltb n 11
+
+-- the numbers of the relays that a panel may have
+unfoldable pub relays : List ℕ
+relays = 0 ∷ 1 ∷ 2 ∷ 3 ∷ 4 ∷ 5 ∷ 6 ∷ 7 ∷ 8 ∷ 9 ∷ []
+
+-- relay v is on in the mask or state x: bit v of x is 1
+unfoldable pub on : ℕ → ℕ → Bool
+on v x = eqb (x / 2 ^ v % 2) 1
+
+-- every bit of a is on in b
+unfoldable pub allOn : ℕ → ℕ → Bool
+allOn a b = all (λ v. not (on v a) || on v b) relays
+
+-- every bit of a is off in b
+unfoldable pub allOff : ℕ → ℕ → Bool
+allOff a b = all (λ v. not (on v a) || not (on v b)) relays

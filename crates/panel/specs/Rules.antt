@@ -1,0 +1,43 @@
+-- Rules: a head and a body, as one word; what a body covers, and when one contains another.
+use Prim.Native.Nat.{ℕ, _+_, _*_, _/_, _%_, _^_}
+use mathlib.Core.Bool.{Bool, _&&_}
+use mathlib.Core.List.{List, []}
+use lib.Dec.{eqb, ltb}
+use Rattle.table.specs.Lists.{each, consIf}
+use Rattle.panel.specs.Masks.{allOn, allOff}
+
+-- the word of the rule with the head h and the body p, m: h × 1,048,576 + P × 1,024 + N
+unfoldable pub ruleWord : ℕ → ℕ → ℕ → ℕ
+ruleWord h p m = h * 1048576 + p * 1024 + m
+
+-- the relay that the rule pulls in
+unfoldable pub head : ℕ → ℕ
+head w = w / 1048576
+
+-- P, the relays that must be on
+unfoldable pub mustOn : ℕ → ℕ
+mustOn w = w / 1024 % 1024
+
+-- N, the relays that must be off
+unfoldable pub mustOff : ℕ → ℕ
+mustOff w = w % 1024
+
+-- w is the word of a rule of a panel with n relays: masks below 2^n, with no bit in both
+unfoldable pub validRule : ℕ → ℕ → Bool
+validRule n w = ltb (head w) n && (ltb (mustOn w) (2 ^ n) && (ltb (mustOff w) (2 ^ n) && allOff (mustOn w) (mustOff w)))
+
+-- the body of w covers the state i: every bit of P is on in i, and every bit of N is off
+unfoldable pub covers : ℕ → ℕ → Bool
+covers w i = allOn (mustOn w) i && allOff (mustOff w) i
+
+-- the body of w contains the body of r: both its masks include the other's
+unfoldable pub contains : ℕ → ℕ → Bool
+contains w r = allOn (mustOn r) (mustOn w) && allOn (mustOff r) (mustOff w)
+
+-- w narrows r: they are rules of one head, and the body of w contains the body of r
+unfoldable pub narrows : ℕ → ℕ → Bool
+narrows w r = eqb (head w) (head r) && contains w r
+
+-- all rules of a panel with n relays, in the order of their words
+unfoldable pub rules : ℕ → List ℕ
+rules n = each n (λ h. each (2 ^ n) (λ p. each (2 ^ n) (λ m. consIf (allOff p m) (ruleWord h p m) [])))

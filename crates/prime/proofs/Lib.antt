@@ -1,0 +1,7 @@
+pub mod Least
+pub mod Laws
+pub mod Apply
+pub mod Primes
+pub mod Books
+pub mod Passes
+pub mod Examples
