@@ -14,7 +14,7 @@ use lib.Seq.{drop-cons, take-all}
 use lib.Pow.{pow-pos, pow-lt, pow-mono}
 use borrow.Author.Tests.{eqb-true, eq-eqb}
 use Rattle.table.specs.Lists.{any, all, increasing}
-use Rattle.table.proofs.Basics.{and-l, and-r, and-i, or-l, or-r, or-e, not-e, false-test, same-test, any-e, any-i, all-e, either}
+use Rattle.table.proofs.Basics.{and-l, and-r, and-i, or-l, or-r, or-e, not-e, false-test, same-test, any-e, any-i, all-e, either, at-in}
 use Rattle.table.proofs.Increasing.{first-below, rest-increasing}
 use Rattle.table.proofs.Searching.{anyLeft, any-end, any-more, risesFrom, risesBy, risesLeft, rises-is, rises-start, increasing-rises}
 use Rattle.panel.specs.Masks.{on}
@@ -79,17 +79,12 @@ increasing-drop zero s i = i
 increasing-drop (suc k) [] i = refl
 increasing-drop (suc k) (x ∷ s) i = increasing-drop k s (rest-increasing x s i)
 
-getD-in : (s : List ℕ) (k : ℕ) → k < length s → Mem (getD s k 0) s
-getD-in [] k l = absurd (not-suc-le-zero l)
-getD-in (x ∷ s) zero l = here refl
-getD-in (x ∷ s) (suc k) l = there (getD-in s k (le-of-suc-le-suc l))
-
 module _ (w : ℕ) (rest : List ℕ) (i : increasing (w ∷ rest) ≡ true) (h : ℕ) (eh : h ≡ head w) (k : ℕ) (l : k < length rest) (g : ℕ) (eg : g ≡ head (getD rest k 0)) where
   pub narrowed-past : (g ≡ h → ⊥) → anyLeft (λ r. narrows r w) rest k ≡ false
   unfolding anyLeft
   narrowed-past f =
       rw (drop-cons rest k 0 l) (
-      none-after w (getD rest k 0) (drop (suc k) rest) (first-below w rest i (getD-in rest k l))
+      none-after w (getD rest k 0) (drop (suc k) rest) (first-below w rest i (at-in rest k l))
       (rw (drop-cons rest k 0 l) at (increasing-drop k rest (rest-increasing w rest i)))
       (λ e. f (eg ∙ e ∙ sym eh)))
 
@@ -188,7 +183,7 @@ applying-start n s x = record { in-size = pow-pos n; told = λ h l. ap (λ (b : 
     nothing h p = not-suc-le-zero (on-below 0 0 h (pow-pos 0) p)
 
 pub rule-head : (n : ℕ) (s : List ℕ) → all (validRule n) s ≡ true → (k : ℕ) → k < length s → head (getD s k 0) < n
-rule-head n s v k l = rule-e n (getD s k 0) (all-e (validRule n) (getD-in s k l) v) .head-lt
+rule-head n s v k l = rule-e n (getD s k 0) (all-e (validRule n) (at-in s k l) v) .head-lt
 
 -- the bit of the relay h, and no other
 one-bit : (h g : ℕ) → on g (2 ^ h) ≡ eqb h g

@@ -6,6 +6,7 @@ use mathlib.Core.List.{List, [], _∷_, List·Memᴰ as Mem, List·Memᴰ·head 
 use Prim.Native.Nat.{ℕ, zero, suc, _<_}
 use native.Mathlib.Nat.{le-of-suc-le-suc, not-suc-le-zero, eq-or-lt-of-le, lt-suc-self}
 use native.Mathlib.Omega.{arith}
+use lib.ListN.{length, getD}
 use Rattle.table.specs.Lists.{any, all, consIf, filter, each}
 
 -- ---- tests
@@ -117,6 +118,12 @@ each-e (suc k) f {x} m = go (λ (p : Mem x (each k f)). each-e k f p) (List·Mem
     go : (Mem x (each k f) → (i : ℕ) × (i < k) × Mem x (f i)) → Mem x (each k f) ⊎ Mem x (f k) → (i : ℕ) × (i < suc k) × Mem x (f i)
     go rec (inl p) = let r = rec p in (r .0, omega (arith, r .1), r .2)
     go rec (inr p) = (k, lt-suc-self k, p)
+
+-- the element at a place of the list is one of it
+pub at-in : (s : List ℕ) (k : ℕ) → k < length s → Mem (getD s k 0) s
+at-in [] k l = absurd (not-suc-le-zero l)
+at-in (x ∷ s) zero l = here refl
+at-in (x ∷ s) (suc k) l = there (at-in s k (le-of-suc-le-suc l))
 
 -- what is collected depends on what is collected at each number below k
 pub each-ext : (k : ℕ) (f g : ℕ → List ℕ) → ((i : ℕ) → i < k → f i ≡ g i) → each k f ≡ each k g

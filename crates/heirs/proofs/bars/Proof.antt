@@ -1,25 +1,18 @@
+-- `heirs::bars` meets its contract.
 use Rattle.panel.proofs.Judging.{both-then, both-else}
 use borrow.Author.Needs.{needs}
 use Rattle.heirs.proofs.bars.Statement.{statement}
 use Rattle.heirs.proofs.bars.Tie as tie
-use Rattle.heirs.proofs.bars.Reads as reads
-use Rattle.heirs.proofs.bars.Lts as lts
-use Rattle.panel.proofs.is_spared.Reads as is-spared-reads
-use Rattle.panel.proofs.narrows_rule.Reads as narrows-rule-reads
 
--- src/lib.rt:13:8
 is-spared-requires : tie.Need-is-spared-requires
 is-spared-requires c κs = search needs
 
--- src/lib.rt:14:9
 narrows-rule-requires : tie.Need-narrows-rule-requires
 narrows-rule-requires c κs = search needs
 
--- src/lib.rt:10:1
 returns : tie.Need-returns
 returns c = both-then _ _ _ _ (c .before .before .is-spared .ensures) (c .before .if1 .taken) (c .narrows-rule .ensures)
 
--- src/lib.rt:10:1
 returns-2 : tie.Need-returns-2
 returns-2 c = both-else _ _ _ (c .before .is-spared .ensures) (c .if1 .left)
 

@@ -1,3 +1,4 @@
+-- `heirs::is_blocked` meets its contract.
 use mathlib.Core.Path.{_≡_, sym, _∙_}
 use mathlib.Core.Bool.{_&&_}
 use Prim.Native.Nat.{_≤_, _-_}
@@ -11,9 +12,6 @@ use Rattle.heirs.proofs.Judging.{blocked-start}
 use borrow.Author.Needs.{needs}
 use Rattle.heirs.proofs.is_blocked.Statement.{statement}
 use Rattle.heirs.proofs.is_blocked.Tie as tie
-use Rattle.heirs.proofs.is_blocked.Reads as reads
-use Rattle.heirs.proofs.is_blocked.Lts as lts
-use Rattle.heirs.proofs.bars.Reads as bars-reads
 
 abbrev Inv-loop : tie.InvT-loop
 Inv-loop part t c k₀ k = (k ≤ length part) × (blocked t c part ≡ anyLeft (λ r. spared t r && narrows c r) part k)
@@ -21,39 +19,30 @@ Inv-loop part t c k₀ k = (k ≤ length part) × (blocked t c part ≡ anyLeft 
 abbrev μ-loop : tie.MeasureT-loop
 μ-loop part t c k₀ k = length part - k
 
--- src/lib.rt:25:5
 loop-holds : tie.Need-loop-holds Inv-loop μ-loop
 loop-holds c = (omega arith, blocked-start _ _ _)
 
--- src/lib.rt:26:23
 mul-bars : tie.Need-mul-bars Inv-loop μ-loop
 mul-bars c = search needs
 
--- src/lib.rt:26:23
 shared-slice-read-bars : tie.Need-shared-slice-read-bars Inv-loop μ-loop
 shared-slice-read-bars c = search needs
 
--- src/lib.rt:26:12
 bars-requires : tie.Need-bars-requires Inv-loop μ-loop
 bars-requires c κs = search needs
 
--- src/lib.rt:27:13
 returns : tie.Need-returns Inv-loop μ-loop
 returns c = sym (c .before .before .before .before .loop .inv .1 ∙ any-here _ _ _ (c .before .before .before .loop-test .taken) (sym (c .before .bars .ensures) ∙ c .if1 .taken))
 
--- src/lib.rt:29:9
 add-k : tie.Need-add-k Inv-loop μ-loop
 add-k c = search needs
 
--- src/lib.rt:25:5
 loop-less : tie.Need-loop-less Inv-loop μ-loop
 loop-less c = search needs
 
--- src/lib.rt:25:5
 loop-again : tie.Need-loop-again Inv-loop μ-loop
 loop-again c = (omega arith, c .before .before .before .before .loop .inv .1 ∙ any-more _ _ _ (c .before .before .before .loop-test .taken) (sym (c .before .bars .ensures) ∙ c .if1 .left))
 
--- src/lib.rt:21:1
 returns-2 : tie.Need-returns-2 Inv-loop μ-loop
 returns-2 c = sym (c .before .loop .inv .1 ∙ any-end _ _ _ (c .loop-test .left))
 

@@ -1,34 +1,24 @@
+-- `panel::does_rest` meets its contract.
 use Rattle.panel.proofs.Judging.{rests-then, rests-else}
 use borrow.Author.Needs.{needs}
 use Rattle.panel.proofs.does_rest.Statement.{statement}
 use Rattle.panel.proofs.does_rest.Tie as tie
-use Rattle.panel.proofs.does_rest.Reads as reads
-use Rattle.panel.proofs.does_rest.Lts as lts
-use Rattle.panel.proofs.is_on.Reads as is-on-reads
-use Rattle.panel.proofs.next_of.Reads as next-of-reads
-use Rattle.panel.proofs.observed_in.Reads as observed-in-reads
 
--- src/lib.rt:146:17
 observed-in-requires : tie.Need-observed-in-requires
 observed-in-requires c κs = search needs
 
--- src/lib.rt:146:8
 is-on-requires : tie.Need-is-on-requires
 is-on-requires c κs = search needs
 
--- src/lib.rt:147:19
 next-of-requires : tie.Need-next-of-requires
 next-of-requires c κs = search needs
 
--- src/lib.rt:147:10
 is-on-requires-2 : tie.Need-is-on-requires-2
 is-on-requires-2 c κs = search needs
 
--- src/lib.rt:143:1
 returns : tie.Need-returns
 returns c = rests-then _ _ _ _ (c .before .before .before .before .observed-in .ensures) (c .before .before .before .is-on .ensures) (c .before .before .if1 .taken) _ _ (c .before .next-of .ensures) (c .is-on2 .ensures)
 
--- src/lib.rt:143:1
 returns-2 : tie.Need-returns-2
 returns-2 c = rests-else _ _ _ _ (c .before .before .observed-in .ensures) (c .before .is-on .ensures) (c .if1 .left)
 

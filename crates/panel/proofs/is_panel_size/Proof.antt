@@ -1,18 +1,15 @@
+-- `panel::is_panel_size` meets its contract.
 use mathlib.Core.Path.{refl, _∙_}
 use borrow.Author.Tests.{lt-ltb, le-ltb}
 use Rattle.panel.proofs.Judging.{both-then, both-else}
 use Rattle.panel.specs.Masks.{panelSize}
 use Rattle.panel.proofs.is_panel_size.Statement.{statement}
 use Rattle.panel.proofs.is_panel_size.Tie as tie
-use Rattle.panel.proofs.is_panel_size.Reads as reads
-use Rattle.panel.proofs.is_panel_size.Lts as lts
 
--- src/lib.rt:10:1
 returns : tie.Need-returns
 unfolding panelSize
 returns c = both-then _ _ _ _ refl (lt-ltb _ _ (c .if1 .taken)) refl
 
--- src/lib.rt:10:1
 returns-2 : tie.Need-returns-2
 unfolding panelSize
 returns-2 c = le-ltb _ _ (c .if1 .left) ∙ both-else _ _ _ refl (le-ltb _ _ (c .if1 .left))

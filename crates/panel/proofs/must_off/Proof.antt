@@ -1,11 +1,9 @@
+-- `panel::must_off` meets its contract.
 use mathlib.Core.Path.{refl}
 use Rattle.panel.specs.Rules.{mustOff}
 use Rattle.panel.proofs.must_off.Statement.{statement}
 use Rattle.panel.proofs.must_off.Tie as tie
-use Rattle.panel.proofs.must_off.Reads as reads
-use Rattle.panel.proofs.must_off.Lts as lts
 
--- src/lib.rt:50:1
 returns : tie.Need-returns
 unfolding mustOff
 returns c = refl

@@ -1,3 +1,4 @@
+-- `panel::narrows_rule` meets its contract.
 use mathlib.Core.Path.{ap₂, sym, _∙_}
 use lib.Dec.{eqb}
 use borrow.Author.Tests.{eq-eqb, ne-eqb}
@@ -6,29 +7,20 @@ use Rattle.panel.proofs.Judging.{both-then, both-else}
 use borrow.Author.Needs.{needs}
 use Rattle.panel.proofs.narrows_rule.Statement.{statement}
 use Rattle.panel.proofs.narrows_rule.Tie as tie
-use Rattle.panel.proofs.narrows_rule.Reads as reads
-use Rattle.panel.proofs.narrows_rule.Lts as lts
-use Rattle.panel.proofs.contains_body.Reads as contains-body-reads
-use Rattle.panel.proofs.head_of.Reads as head-of-reads
 
--- src/lib.rt:80:8
 head-of-requires : tie.Need-head-of-requires
 head-of-requires c κs = search needs
 
--- src/lib.rt:80:22
 head-of-requires-2 : tie.Need-head-of-requires-2
 head-of-requires-2 c κs = search needs
 
--- src/lib.rt:81:9
 contains-body-requires : tie.Need-contains-body-requires
 contains-body-requires c κs = search needs
 
--- src/lib.rt:77:1
 returns : tie.Need-returns
 unfolding narrows
 returns c = both-then _ _ _ _ (ap₂ eqb (c .before .before .before .head-of .ensures) (c .before .before .head-of2 .ensures)) (eq-eqb _ _ (c .before .if1 .taken)) (c .contains-body .ensures)
 
--- src/lib.rt:77:1
 returns-2 : tie.Need-returns-2
 unfolding narrows
 returns-2 c = both-else _ _ _ (ap₂ eqb (c .before .before .head-of .ensures) (c .before .head-of2 .ensures)) (ne-eqb _ _ (c .if1 .left))

@@ -1,11 +1,9 @@
+-- `panel::next_of` meets its contract.
 use mathlib.Core.Path.{refl}
 use Rattle.panel.specs.Transitions.{next}
 use Rattle.panel.proofs.next_of.Statement.{statement}
 use Rattle.panel.proofs.next_of.Tie as tie
-use Rattle.panel.proofs.next_of.Reads as reads
-use Rattle.panel.proofs.next_of.Lts as lts
 
--- src/lib.rt:120:1
 returns : tie.Need-returns
 unfolding next
 returns c = refl

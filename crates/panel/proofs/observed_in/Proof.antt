@@ -1,11 +1,9 @@
+-- `panel::observed_in` meets its contract.
 use mathlib.Core.Path.{refl}
 use Rattle.panel.specs.Transitions.{observed}
 use Rattle.panel.proofs.observed_in.Statement.{statement}
 use Rattle.panel.proofs.observed_in.Tie as tie
-use Rattle.panel.proofs.observed_in.Reads as reads
-use Rattle.panel.proofs.observed_in.Lts as lts
 
--- src/lib.rt:127:1
 returns : tie.Need-returns
 unfolding observed
 returns c = refl

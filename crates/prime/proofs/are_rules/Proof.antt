@@ -1,3 +1,4 @@
+-- `prime::are_rules` meets its contract.
 use mathlib.Core.Path.{_≡_, refl, sym, _∙_}
 use mathlib.Core.Bool.{_&&_}
 use Prim.Native.Nat.{_≤_, _-_}
@@ -11,9 +12,6 @@ use Rattle.prime.proofs.Passes.{rules-start, rule-small}
 use borrow.Author.Needs.{needs}
 use Rattle.prime.proofs.are_rules.Statement.{statement}
 use Rattle.prime.proofs.are_rules.Tie as tie
-use Rattle.prime.proofs.are_rules.Reads as reads
-use Rattle.prime.proofs.are_rules.Lts as lts
-use Rattle.panel.proofs.is_rule.Reads as is-rule-reads
 
 abbrev Inv-loop : tie.InvT-loop
 Inv-loop n sheet lo₀ k₀ lo k = (k ≤ length sheet) × ((all (validRule n) sheet && increasing sheet) ≡ risesLeft (validRule n) (λ w. w) lo sheet k)
@@ -21,47 +19,36 @@ Inv-loop n sheet lo₀ k₀ lo k = (k ≤ length sheet) × ((all (validRule n) s
 abbrev μ-loop : tie.MeasureT-loop
 μ-loop n sheet lo₀ k₀ lo k = length sheet - k
 
--- src/lib.rt:40:5
 loop-holds : tie.Need-loop-holds Inv-loop μ-loop
 loop-holds c = (omega arith, rules-start _ _)
 
--- src/lib.rt:41:17
 mul-w : tie.Need-mul-w Inv-loop μ-loop
 mul-w c = search needs
 
--- src/lib.rt:41:17
 shared-slice-read-w : tie.Need-shared-slice-read-w Inv-loop μ-loop
 shared-slice-read-w c = search needs
 
--- src/lib.rt:42:13
 is-rule-requires : tie.Need-is-rule-requires Inv-loop μ-loop
 is-rule-requires c κs = search needs
 
--- src/lib.rt:43:13
 returns : tie.Need-returns Inv-loop μ-loop
 returns c = sym (c .before .before .before .before .loop .inv .1 ∙ rises-fail _ _ _ _ _ (c .before .before .before .loop-test .taken) (sym (c .before .is-rule .ensures) ∙ not-true _ (c .if1 .taken)))
 
--- src/lib.rt:46:13
 returns-2 : tie.Need-returns-2 Inv-loop μ-loop
 returns-2 c = sym (c .before .before .before .before .before .loop .inv .1 ∙ rises-low _ _ _ _ _ (c .before .before .before .before .loop-test .taken) (sym (c .before .before .is-rule .ensures) ∙ not-false _ (c .before .if1 .left)) _ refl (c .if2 .taken))
 
--- src/lib.rt:48:14
 add-lo : tie.Need-add-lo Inv-loop μ-loop
 add-lo c = omega (arith, rule-small _ _ (c .before .before .before .before .before .before .before .pre) _ (c .before .before .is-rule .ensures) (not-false _ (c .before .if1 .left)))
 
--- src/lib.rt:49:9
 add-k : tie.Need-add-k Inv-loop μ-loop
 add-k c = search needs
 
--- src/lib.rt:40:5
 loop-less : tie.Need-loop-less Inv-loop μ-loop
 loop-less c = search needs
 
--- src/lib.rt:40:5
 loop-again : tie.Need-loop-again Inv-loop μ-loop
 loop-again c = (omega arith, c .before .before .before .before .before .loop .inv .1 ∙ rises-more _ _ _ _ _ (c .before .before .before .before .loop-test .taken) (sym (c .before .before .is-rule .ensures) ∙ not-false _ (c .before .if1 .left)) _ refl (c .if2 .left))
 
--- src/lib.rt:34:1
 returns-3 : tie.Need-returns-3 Inv-loop μ-loop
 returns-3 c = sym (c .before .loop .inv .1 ∙ rises-end _ _ _ _ _ (c .loop-test .left))
 

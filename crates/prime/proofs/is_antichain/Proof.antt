@@ -1,3 +1,4 @@
+-- `prime::is_antichain` meets its contract.
 use mathlib.Core.Path.{_≡_, sym, _∙_}
 use Prim.Native.Nat.{_≤_, _-_}
 use native.Mathlib.Omega.{arith}
@@ -8,9 +9,6 @@ use Rattle.prime.proofs.Passes.{antichainLeft, antichain-start, anticha
 use borrow.Author.Needs.{needs}
 use Rattle.prime.proofs.is_antichain.Statement.{statement}
 use Rattle.prime.proofs.is_antichain.Tie as tie
-use Rattle.prime.proofs.is_antichain.Reads as reads
-use Rattle.prime.proofs.is_antichain.Lts as lts
-use Rattle.prime.proofs.is_narrowed.Reads as is-narrowed-reads
 
 abbrev Inv-loop : tie.InvT-loop
 Inv-loop sheet k₀ k = (k ≤ length sheet) × (antichain sheet ≡ antichainLeft sheet k)
@@ -18,55 +16,42 @@ Inv-loop sheet k₀ k = (k ≤ length sheet) × (antichain sheet ≡ antichainLe
 abbrev μ-loop : tie.MeasureT-loop
 μ-loop sheet k₀ k = length sheet - k
 
--- src/lib.rt:80:5
 loop-holds : tie.Need-loop-holds Inv-loop μ-loop
 loop-holds c = (omega arith, antichain-start _)
 
--- src/lib.rt:81:20
 add-next : tie.Need-add-next Inv-loop μ-loop
 add-next c = search needs
 
--- src/lib.rt:82:24
 mul-is-narrowed : tie.Need-mul-is-narrowed Inv-loop μ-loop
 mul-is-narrowed c = search needs
 
--- src/lib.rt:82:24
 shared-slice-read-is-narrowed : tie.Need-shared-slice-read-is-narrowed Inv-loop μ-loop
 shared-slice-read-is-narrowed c = search needs
 
--- src/lib.rt:82:34
 mul-is-narrowed-2 : tie.Need-mul-is-narrowed-2 Inv-loop μ-loop
 mul-is-narrowed-2 c = search needs
 
--- src/lib.rt:82:34
 sub-is-narrowed : tie.Need-sub-is-narrowed Inv-loop μ-loop
 sub-is-narrowed c = search needs
 
--- src/lib.rt:82:34
 part-is-narrowed-start : tie.Need-part-is-narrowed-start Inv-loop μ-loop
 part-is-narrowed-start c = search needs
 
--- src/lib.rt:82:34
 part-is-narrowed-end : tie.Need-part-is-narrowed-end Inv-loop μ-loop
 part-is-narrowed-end c = search needs
 
--- src/lib.rt:82:12
 is-narrowed-requires : tie.Need-is-narrowed-requires Inv-loop μ-loop
 is-narrowed-requires c κs = antichain-rest (now (c .before .before .before .before .before .args .sheet)) (c .before .before .before .before .before .pre) _ (c .before .before .loop-test .taken)
 
--- src/lib.rt:83:13
 returns : tie.Need-returns Inv-loop μ-loop
 returns c = sym (c .before .before .before .before .before .loop .inv .1 ∙ antichain-no (now (c .before .before .before .before .before .before .before .args .sheet)) (c .before .before .before .before .before .before .before .pre) _ (c .before .before .before .before .loop-test .taken) _ (c .before .is-narrowed .ensures) (c .if1 .taken))
 
--- src/lib.rt:80:5
 loop-less : tie.Need-loop-less Inv-loop μ-loop
 loop-less c = search needs
 
--- src/lib.rt:80:5
 loop-again : tie.Need-loop-again Inv-loop μ-loop
 loop-again c = (omega arith, c .before .before .before .before .before .loop .inv .1 ∙ antichain-more (now (c .before .before .before .before .before .before .before .args .sheet)) (c .before .before .before .before .before .before .before .pre) _ (c .before .before .before .before .loop-test .taken) _ (c .before .is-narrowed .ensures) (c .if1 .left))
 
--- src/lib.rt:75:1
 returns-2 : tie.Need-returns-2 Inv-loop μ-loop
 returns-2 c = sym (c .before .loop .inv .1 ∙ antichain-end _ _ (c .loop-test .left))
 

@@ -1,26 +1,19 @@
+-- `prime::is_good_sheet` meets its contract.
 use denote.Ref.{now}
 use Rattle.prime.proofs.Passes.{good-then, good-else, rules-increase}
 use borrow.Author.Needs.{needs}
 use Rattle.prime.proofs.is_good_sheet.Statement.{statement}
 use Rattle.prime.proofs.is_good_sheet.Tie as tie
-use Rattle.prime.proofs.is_good_sheet.Reads as reads
-use Rattle.prime.proofs.is_good_sheet.Lts as lts
-use Rattle.prime.proofs.are_rules.Reads as are-rules-reads
-use Rattle.prime.proofs.is_antichain.Reads as is-antichain-reads
 
--- src/lib.rt:95:8
 are-rules-requires : tie.Need-are-rules-requires
 are-rules-requires c κs = search needs
 
--- src/lib.rt:96:9
 is-antichain-requires : tie.Need-is-antichain-requires
 is-antichain-requires c κs = rules-increase (c .before .before .before .args .n) (now (c .before .before .before .args .sheet)) _ (c .before .are-rules .ensures) (c .if1 .taken)
 
--- src/lib.rt:91:1
 returns : tie.Need-returns
 returns c = good-then _ _ _ _ (c .before .before .are-rules .ensures) (c .before .if1 .taken) (c .is-antichain .ensures)
 
--- src/lib.rt:91:1
 returns-2 : tie.Need-returns-2
 returns-2 c = good-else _ _ _ (c .before .are-rules .ensures) (c .if1 .left)
 

@@ -1,3 +1,4 @@
+-- `prime::is_narrowed` meets its contract.
 use mathlib.Core.Path.{_≡_, sym, _∙_}
 use mathlib.Core.Bool.{Bool}
 use mathlib.Core.List.{List}
@@ -12,10 +13,6 @@ use Rattle.prime.proofs.Passes.{narrowed-past, narrowed-test}
 use borrow.Author.Needs.{needs}
 use Rattle.prime.proofs.is_narrowed.Statement.{statement}
 use Rattle.prime.proofs.is_narrowed.Tie as tie
-use Rattle.prime.proofs.is_narrowed.Reads as reads
-use Rattle.prime.proofs.is_narrowed.Lts as lts
-use Rattle.panel.proofs.contains_body.Reads as contains-body-reads
-use Rattle.panel.proofs.head_of.Reads as head-of-reads
 
 abbrev Inv-loop : tie.InvT-loop
 Inv-loop w rest h k₀ k = (k ≤ length rest) × (any (λ r. narrows r w) rest ≡ anyLeft (λ r. narrows r w) rest k)
@@ -23,51 +20,39 @@ Inv-loop w rest h k₀ k = (k ≤ length rest) × (any (λ r. narrows r w) rest 
 abbrev μ-loop : tie.MeasureT-loop
 μ-loop w rest h k₀ k = length rest - k
 
--- src/lib.rt:59:9
 head-of-requires : tie.Need-head-of-requires Inv-loop μ-loop
 head-of-requires c κs = search needs
 
--- src/lib.rt:61:5
 loop-holds : tie.Need-loop-holds Inv-loop μ-loop
 loop-holds c = (omega arith, any-start _ _)
 
--- src/lib.rt:62:17
 mul-r : tie.Need-mul-r Inv-loop μ-loop
 mul-r c = search needs
 
--- src/lib.rt:62:17
 shared-slice-read-r : tie.Need-shared-slice-read-r Inv-loop μ-loop
 shared-slice-read-r c = search needs
 
--- src/lib.rt:63:12
 head-of-requires-2 : tie.Need-head-of-requires-2 Inv-loop μ-loop
 head-of-requires-2 c κs = search needs
 
--- src/lib.rt:64:13
 returns : tie.Need-returns Inv-loop μ-loop
 returns c = sym (c .before .before .before .before .loop .inv .1 ∙ narrowed-past _ _ (c .before .before .before .before .before .before .before .pre) _ (c .before .before .before .before .before .head-of .ensures) _ (c .before .before .before .loop-test .taken) _ (c .before .head-of2 .ensures) (c .if1 .taken))
 
--- src/lib.rt:66:12
 contains-body-requires : tie.Need-contains-body-requires Inv-loop μ-loop
 contains-body-requires c κs = search needs
 
--- src/lib.rt:67:13
 returns-2 : tie.Need-returns-2 Inv-loop μ-loop
 returns-2 c = sym (c .before .before .before .before .before .before .loop .inv .1 ∙ any-here _ _ _ (c .before .before .before .before .before .loop-test .taken) (narrowed-test _ (now (c .before .before .before .before .before .before .before .before .before .args .rest)) (c .before .before .before .before .before .before .before .before .before .pre) _ (c .before .before .before .before .before .before .before .head-of .ensures) _ (c .before .before .before .before .before .loop-test .taken) _ (c .before .before .before .head-of2 .ensures) (c .before .before .if1 .left) _ (c .before .contains-body .ensures) ∙ c .if2 .taken))
 
--- src/lib.rt:69:9
 add-k : tie.Need-add-k Inv-loop μ-loop
 add-k c = search needs
 
--- src/lib.rt:61:5
 loop-less : tie.Need-loop-less Inv-loop μ-loop
 loop-less c = search needs
 
--- src/lib.rt:61:5
 loop-again : tie.Need-loop-again Inv-loop μ-loop
 loop-again c = (omega arith, c .before .before .before .before .before .before .loop .inv .1 ∙ any-more _ _ _ (c .before .before .before .before .before .loop-test .taken) (narrowed-test _ (now (c .before .before .before .before .before .before .before .before .before .args .rest)) (c .before .before .before .before .before .before .before .before .before .pre) _ (c .before .before .before .before .before .before .before .head-of .ensures) _ (c .before .before .before .before .before .loop-test .taken) _ (c .before .before .before .head-of2 .ensures) (c .before .before .if1 .left) _ (c .before .contains-body .ensures) ∙ c .if2 .left))
 
--- src/lib.rt:55:1
 returns-3 : tie.Need-returns-3 Inv-loop μ-loop
 returns-3 c = sym (c .before .loop .inv .1 ∙ any-end _ _ _ (c .loop-test .left))
 
