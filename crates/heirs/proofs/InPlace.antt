@@ -2,12 +2,12 @@
 use mathlib.Core.Path.{_≡_, refl, sym, ap, _∙_, subst}
 use mathlib.Core.Logic.{_⊎_, inl, inr}
 use mathlib.Core.Bool.{Bool, true, false, not, _&&_}
-use mathlib.Core.List.{List, [], _∷_, _++_, List·Memᴰ as Mem, List·Memᴰ·head as here, List·Memᴰ·tail as there}
+use mathlib.Core.List.{List, [], _∷_, _++_, List·Memᴰ as Mem, List·Memᴰ·head as here, List·Memᴰ·tail as there, Memᴰ·append-left}
 use Prim.Native.Nat.{ℕ, suc, _≤_, _<_}
 use native.Mathlib.Decide.{ℕ-discrete}
 use native.Mathlib.Omega.{arith}
 use lib.ListN.{length, length-append}
-use Rattle.table.specs.Lists.{any, consIf, filter, increasing, insertAll, remove}
+use Rattle.table.specs.Lists.{any, consIf, filter, increasing, insertAll, remove, distinct}
 use Rattle.panel.specs.Rules.{narrows, head}
 use Rattle.panel.specs.Transitions.{state, spared}
 use Rattle.panel.specs.Contacts.{free, candidate}
@@ -15,7 +15,7 @@ use Rattle.prime.specs.Sheets.{permits, takeSheet}
 use Rattle.heirs.specs.Heirs.{replaced, oneOr, weight, heirsOf, heirsOfAll, takeSteps, blocked, heirBy, heirsIn}
 use Rattle.table.proofs.Basics.{not-i, not-e, either, false-test, filter-e, filter-i, each-ext, same-test, any-e, any-i, and-i}
 use Rattle.table.proofs.Increasing.{increasing-unique}
-use Rattle.table.proofs.Inserting.{insertAll-length, insertAll-e, insertAll-old, insertAll-new, insertAll-increasing}
+use Rattle.table.proofs.Inserting.{insertAll-length, insertAll-e, insertAll-old, insertAll-new, insertAll-increasing, front-distinct}
 use Rattle.table.proofs.Sums.{sum, sum-insertAll, sum-parted, sum-ones, sum-at-least, remove-e, remove-i, remove-increasing, remove-sum}
 use Rattle.panel.proofs.Words.{narrows-refl, narrows-e}
 use Rattle.panel.proofs.Candidates.{candidate-narrows}
@@ -142,6 +142,16 @@ module _ (n : ℕ) (small : n ≤ 10) (s : List ℕ) (g : Good n s) (t : ℕ) wh
         never r w (inr k) (inl a) =
             remove-e b tab k .1 (same-parent r (heir-b r a) w ∙ heir-b-parent r a)
         never r w (inr k) (inr a) = p .fresh r w (remove-e b tab k .0) (remove-e b tab a .0)
+
+    -- the heirs are new to the table with b gone; and so any first ones of them keep it in order
+    pub heirs-fresh : (r : ℕ) → Mem r (heirsOf n keep t b) → Mem r (remove b tab) → ⊥
+    heirs-fresh r k a = p .fresh r (heir-b r k) (subst (λ (x : ℕ). Mem x tab) (sym (heir-b-parent r k)) m) (remove-e b tab a .0)
+
+    pub first-heirs-in-order : (xs zs : List ℕ) → heirsOf n keep t b ≡ xs ++ zs → increasing (insertAll xs (remove b tab)) ≡ true
+    first-heirs-in-order xs zs e =
+        insertAll-increasing xs (remove b tab) (remove-increasing b tab (p .sorted))
+        (front-distinct xs zs (ap distinct (sym e) ∙ heirsOf-distinct n small s g t b in-old))
+        (λ r k a. heirs-fresh r (subst (λ (l : List ℕ). Mem r l) (sym e) (Memᴰ·append-left zs k)) a)
 
   -- ---- the test that the code makes
 

@@ -1,14 +1,25 @@
 -- The tests for heirs as code makes them: one law for each way through.
-use mathlib.Core.Path.{_≡_, sym, ap, _∙_}
+use mathlib.Core.Path.{_≡_, refl, sym, ap, ap₂, _∙_}
 use mathlib.Core.Bool.{Bool, true, false, not, _&&_}
-use mathlib.Core.List.{List}
-use Prim.Native.Nat.{ℕ}
+use mathlib.Core.List.{List, [], _++_, append-nil, List·Memᴰ as Mem, List·Memᴰ·head as here, List·Memᴰ·tail as there}
+use Prim.Native.Nat.{ℕ, _+_, _^_, _≤_, _<_, zero, suc}
+use mathlib.Core.Logic.{_⊎_, inl, inr}
+use native.Mathlib.Nat.{lt-of-lt-of-le, zero-lt-suc}
+use native.Mathlib.Numerals.{add-one}
+use lib.ListN.{length}
+use native.Mathlib.Omega.{arith}
+use lib.Pow.{pow-mono, pow-pos}
+use Rattle.table.specs.Lists.{consIf, each}
+use Rattle.table.proofs.Basics.{each-ext, each-i, false-test}
+use Rattle.panel.specs.Masks.{on, bitIf, bitsWhere}
+use Rattle.panel.proofs.Masks.{bits-lt, bits-on, bits-ext, same-bits, find, off-zero}
 use Rattle.panel.specs.Rules.{narrows}
 use Rattle.panel.specs.Transitions.{state, spared}
 use Rattle.panel.specs.Contacts.{free, candidate}
 use Rattle.panel.proofs.Judging.{both-then, both-else}
 use Rattle.table.proofs.Searching.{anyLeft, any-start}
-use Rattle.heirs.specs.Heirs.{blocked, heirBy}
+use Rattle.panel.proofs.Words.{single-i}
+use Rattle.heirs.specs.Heirs.{blocked, heirBy, heirsIn, heirMask, picked}
 
 pub blocked-start : (t c : ℕ) (part : List ℕ) → blocked t c part ≡ anyLeft (λ r. spared t r && narrows c r) part 0
 unfolding blocked
@@ -24,3 +35,75 @@ module _ (t b v : ℕ) (part : List ℕ) (x : Bool) (ex : x ≡ free v b) where
   pub heir-else : x ≡ false → false ≡ heirBy t b v part
   unfolding heirBy
   heir-else e = both-else x (free v b) (not (blocked t (candidate b v (state t)) part)) ex e
+
+-- ---- the mask, relay by relay
+
+pub bit-then : (x : Bool) (v p : ℕ) → p ≡ 2 ^ v → x ≡ true → p ≡ bitIf x v
+bit-then x v p e t = e ∙ sym (ap (λ (y : Bool). bitIf y v) t)
+
+pub bit-else : (x : Bool) (v : ℕ) → x ≡ false → 0 ≡ bitIf x v
+bit-else x v t = sym (ap (λ (y : Bool). bitIf y v) t)
+
+pub mask-start : (f : ℕ → Bool) → 0 ≡ bitsWhere 0 f
+unfolding bitsWhere
+mask-start f = refl
+
+pub mask-more : (f : ℕ → Bool) (v m x : ℕ) (b : Bool) → m ≡ bitsWhere v f → b ≡ f v → x ≡ bitIf b v → m + x ≡ bitsWhere (v + 1) f
+unfolding bitsWhere
+mask-more f v m x b em eb ex = rw (add-one v) (ap₂ (λ (p q : ℕ). p + q) em (ex ∙ ap (λ (y : Bool). bitIf y v) eb))
+
+pub mask-small : (f : ℕ → Bool) (v m x : ℕ) (b : Bool) → v < 10 → m ≡ bitsWhere v f → x ≡ bitIf b v → m + x < 2048
+mask-small f v m x b l em ex = go b ex
+  where
+    low : m < 512
+    low = omega (arith, em, bits-lt v f, pow-mono {i = v} {j = 9} (omega arith))
+
+    go : (b : Bool) → x ≡ bitIf b v → m + x < 2048
+    go true e = omega (arith, low, e, pow-mono {i = v} {j = 9} (omega arith))
+    go false e = omega (arith, low, e)
+
+pub mask-end : (n t b v m : ℕ) (part : List ℕ) → v ≤ n → n ≤ v → m ≡ bitsWhere v (λ u. heirBy t b u part) → m ≡ heirMask n t b part
+unfolding heirMask
+mask-end n t b v m part h k e = let q : v ≡ n = omega arith in e ∙ ap (λ (z : ℕ). bitsWhere z (λ u. heirBy t b u part)) q
+
+-- ---- the mask tells the heirs
+
+pub picked-heirs : (n t b m : ℕ) (part : List ℕ) → m ≡ heirMask n t b part → picked n m b (state t) ≡ heirsIn n t b part
+unfolding picked heirsIn heirMask
+picked-heirs n t b m part e =
+    each-ext n (λ v. consIf (on v m) (candidate b v (state t)) []) (λ v. consIf (heirBy t b v part) (candidate b v (state t)) [])
+    (λ v l. ap (λ (x : Bool). consIf x (candidate b v (state t)) []) (ap (on v) e ∙ bits-on n (λ u. heirBy t b u part) v l))
+
+-- the first relays of the mask tell the first heirs
+pub picked-first : (v n t b m : ℕ) (part : List ℕ) → v ≤ n → m ≡ heirMask n t b part → picked v m b (state t) ≡ heirsIn v t b part
+unfolding picked heirsIn heirMask
+picked-first v n t b m part l e =
+    each-ext v (λ u. consIf (on u m) (candidate b u (state t)) []) (λ u. consIf (heirBy t b u part) (candidate b u (state t)) [])
+    (λ u k. ap (λ (x : Bool). consIf x (candidate b u (state t)) []) (ap (on u) e ∙ bits-on n (λ w. heirBy t b w part) u (lt-of-lt-of-le k l)))
+
+-- an empty mask has no heir, and one that is not empty has
+pub mask-none : (n t b m : ℕ) (part : List ℕ) → m ≡ heirMask n t b part → m ≡ 0 → length (heirsIn n t b part) ≡ 0
+unfolding heirsIn heirMask
+mask-none n t b m part e z = ap length (each-ext n (λ v. consIf (heirBy t b v part) (candidate b v (state t)) []) (λ v. []) (λ v l. ap (λ (x : Bool). consIf x (candidate b v (state t)) []) (off v l))) ∙ none n
+  where
+    off : (v : ℕ) → v < n → heirBy t b v part ≡ false
+    off v l = sym (bits-on n (λ w. heirBy t b w part) v l) ∙ ap (on v) (sym e ∙ z) ∙ off-zero v
+
+    none : (k : ℕ) → length (each k (λ v. [])) ≡ 0
+    none zero = refl
+    none (suc k) = ap length (append-nil (each k (λ v. []))) ∙ none k
+
+pub mask-some : (n t b m : ℕ) (part : List ℕ) → m ≡ heirMask n t b part → (m ≡ 0 → ⊥) → 1 ≤ length (heirsIn n t b part)
+unfolding heirsIn heirMask
+mask-some n t b m part e z = go (find n (λ v. heirBy t b v part))
+  where
+    some : {x : ℕ} {l : List ℕ} → Mem x l → 1 ≤ length l
+    some (here {xs = ys} p) = zero-lt-suc (length ys)
+    some (there {xs = ys} p) = zero-lt-suc (length ys)
+
+    empty : (k : ℕ) → bitsWhere k (λ v. false) ≡ 0
+    empty k = same-bits k (bitsWhere k (λ v. false)) 0 (bits-lt k (λ v. false)) (pow-pos k) (λ v l. bits-on k (λ u. false) v l ∙ sym (off-zero v))
+
+    go : ((v : ℕ) × (v < n) × (heirBy t b v part ≡ true)) ⊎ ((v : ℕ) → v < n → heirBy t b v part ≡ true → ⊥) → 1 ≤ length (each n (λ v. consIf (heirBy t b v part) (candidate b v (state t)) []))
+    go (inl k) = some (each-i n (λ v. consIf (heirBy t b v part) (candidate b v (state t)) []) (k .0) (k .1) (single-i (heirBy t b (k .0) part) refl (k .2)))
+    go (inr f) = absurd (z (e ∙ bits-ext n (λ v. heirBy t b v part) (λ v. false) (λ v l. false-test (heirBy t b v part) (f v l)) ∙ empty n))

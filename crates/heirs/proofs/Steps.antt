@@ -193,6 +193,13 @@ module _ (n : ℕ) (small : n ≤ 10) (s : List ℕ) (g : Good n s) (t : ℕ) wh
       (heirsOfAll-distinct old (increasing-distinct old (filter-increasing (λ w. not (spared t w)) s (g .sorted))) (λ b m. m))
       (λ r m. heir-from r (heirsOfAll-e n keep t old r m)) from-heir
 
+  -- added is the number of heirs of the hit rules
+  pub take-added-heirs : addedCount s (takeSheet n s t) ≡ length (heirsOfAll n keep t old)
+  take-added-heirs =
+      take-added n small s g t (heirsOfAll n keep t old)
+      (heirsOfAll-distinct old (increasing-distinct old (filter-increasing (λ w. not (spared t w)) s (g .sorted))) (λ b m. m))
+      (λ r m. heir-from r (heirsOfAll-e n keep t old r m)) from-heir
+
   -- in a table that holds the kept rules, and else old rules that are not spared and heirs of other parents or relays,
   -- the test that an heir narrows no spared rule of the table decides whether it belongs in the new sheet
   pub clear-in-table : (tab : List ℕ) (b v : ℕ) → Candidacy n s t b v

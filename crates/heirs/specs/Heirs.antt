@@ -4,6 +4,7 @@ use mathlib.Core.Bool.{Bool, true, false, not, _&&_}
 use mathlib.Core.List.{List, [], _∷_, _++_}
 use lib.ListN.{length}
 use Rattle.table.specs.Lists.{any, consIf, filter, each, remove, insertAll}
+use Rattle.panel.specs.Masks.{on, bitsWhere}
 use Rattle.panel.specs.Rules.{narrows}
 use Rattle.panel.specs.Transitions.{state, spared}
 use Rattle.panel.specs.Contacts.{free, candidate}
@@ -39,6 +40,14 @@ heirBy t b v tab = free v b && not (blocked t (candidate b v (state t)) tab)
 -- the heirs of b, as far as the table tells
 unfoldable pub heirsIn : ℕ → ℕ → ℕ → List ℕ → List ℕ
 heirsIn n t b tab = each n (λ v. consIf (heirBy t b v tab) (candidate b v (state t)) [])
+
+-- the relays whose candidates of b are heirs, as far as the table tells
+unfoldable pub heirMask : ℕ → ℕ → ℕ → List ℕ → ℕ
+heirMask n t b tab = bitsWhere n (λ v. heirBy t b v tab)
+
+-- the candidates of b, against the state i, on the relays of a mask
+unfoldable pub picked : ℕ → ℕ → ℕ → ℕ → List ℕ
+picked n mask b i = each n (λ v. consIf (on v mask) (candidate b v i) [])
 
 abbrev pub oneOr : Bool → ℕ → ℕ
 oneOr true k = 1

@@ -4,6 +4,7 @@ use mathlib.Core.Logic.{_⊎_, inl, inr}
 use mathlib.Core.Bool.{Bool, true, false, not, false≢true}
 use Prim.Native.Nat.{ℕ, _+_, _*_, _^_, _≤_, _<_}
 use native.Mathlib.Omega.{arith}
+use lib.Pow.{pow-pos}
 use native.Mathlib.Decide.{ℕ-discrete}
 use Rattle.panel.specs.Masks.{on}
 use Rattle.panel.specs.Rules.{ruleWord, head, mustOn, mustOff, covers, narrows}
@@ -270,3 +271,12 @@ module _ (n : ℕ) (small : n ≤ 10) where
       mustOff-side : (k : ℕ) → on k (mustOff c) ≡ true → (on k (mustOff b) ≡ true) ⊎ ((k ≡ v) × (on v i ≡ true)) → on k (mustOff b) ≡ true
       mustOff-side k t (inl q) = q
       mustOff-side k t (inr q) = absurd (free-mustOff u c fc (subst (λ (m : ℕ). on m (mustOff c) ≡ true) (q .0 ∙ sym one) t))
+
+-- its word is larger
+pub candidate-above : (b v i : ℕ) → b < candidate b v i
+unfolding candidate
+candidate-above b v i = go (on v i)
+  where
+    go : (x : Bool) → b < b + contact x v
+    go true = omega (arith, pow-pos v)
+    go false = omega (arith, pow-pos v)

@@ -3,15 +3,16 @@ use mathlib.Core.Path.{_≡_, refl, sym, ap, ap₂, _∙_, subst}
 use mathlib.Core.Logic.{_⊎_, inl, inr}
 use mathlib.Core.Bool.{Bool, true, false, not, _&&_, _||_, false≢true}
 use Prim.Native.Nat.{ℕ, zero, suc, _+_, _-_, _/_, _%_, _^_, _≤_, _<_, suc-le-suc, min, max}
-use native.Mathlib.Nat.{div-one, pow-suc, div-div-eq-div-mul, mul-comm, mod-lt, zero-lt-suc, le-of-suc-le-suc, not-suc-le-zero, lt-suc-self, eq-or-lt-of-le}
+use native.Mathlib.Nat.{div-one, pow-suc, div-div-eq-div-mul, mul-comm, mod-lt, zero-lt-suc, le-of-suc-le-suc, not-suc-le-zero, lt-suc-self, eq-or-lt-of-le, lt-irrefl, add-zero}
 use native.Mathlib.Omega.{arith}
 use lib.Arith.{bin-ind, lt-one}
 use lib.Bits.{bitAnd, bitOr, and-step, or-step, and-self, and-comm, and-zero-r, and-le-r}
 use lib.Dec.{eqb}
 use borrow.Author.Tests.{eqb-true, eq-eqb}
 use mathlib.Core.List.{[], _∷_, List·Memᴰ as Mem, List·Memᴰ·head as here}
-use Rattle.panel.specs.Masks.{on, relays, allOn, allOff}
-use Rattle.table.proofs.Basics.{either, and-l, and-r, and-i, not-e, not-i, passes, each-i, all-e, all-i, same-test}
+use lib.Pow.{pow-pos}
+use Rattle.panel.specs.Masks.{bitIf, bitsWhere, on, relays, allOn, allOff}
+use Rattle.table.proofs.Basics.{either, and-l, and-r, and-i, not-e, not-i, passes, each-i, all-e, all-i, same-test, false-test}
 
 -- ---- the tests as code makes them
 
@@ -334,3 +335,52 @@ allOff-apart a b l =
     go : (x y : Bool) → (x ≡ true → y ≡ true → ⊥) → (not x || not y) ≡ true
     go true y f = not-i y (λ q. f refl q)
     go false y f = refl
+
+-- ---- the mask of the relays at which a test passes
+
+pub bits-lt : (n : ℕ) (f : ℕ → Bool) → bitsWhere n f < 2 ^ n
+unfolding bitsWhere
+bits-lt zero f = pow-pos 0
+bits-lt (suc n) f = go (f n) (bits-lt n f)
+  where
+    go : (b : Bool) → bitsWhere n f < 2 ^ n → bitsWhere n f + bitIf b n < 2 ^ suc n
+    go true l = omega (arith, pow-suc 2 n)
+    go false l = omega (arith, pow-suc 2 n)
+
+pub bits-on : (n : ℕ) (f : ℕ → Bool) (h : ℕ) → h < n → on h (bitsWhere n f) ≡ f h
+unfolding bitsWhere
+bits-on zero f h l = absurd (not-suc-le-zero l)
+bits-on (suc n) f h l = go (eq-or-lt-of-le (le-of-suc-le-suc l)) (λ (k : h < n). bits-on n f h k)
+  where
+    a : ℕ
+    a = bitsWhere n f
+
+    off : on n a ≡ true → ⊥
+    off p = lt-irrefl n (on-below n a n (bits-lt n f) p)
+
+    top : (b : Bool) → on n (a + bitIf b n) ≡ b
+    top true = bit-on n (a + 2 ^ n) (add-on n a (off-bit n a off))
+    top false = false-test (on n (a + 0)) (λ p. off (subst (λ (y : ℕ). on n y ≡ true) (add-zero a) p))
+
+    low : (b : Bool) → h < n → on h (a + bitIf b n) ≡ on h a
+    low true k =
+        same-test (on h (a + 2 ^ n)) (on h a)
+        (λ p. bit-on h a (sym (other k) ∙ on-bit h (a + 2 ^ n) p)) (λ p. bit-on h (a + 2 ^ n) (other k ∙ on-bit h a p))
+      where
+        other : h < n → bit h (a + 2 ^ n) ≡ bit h a
+        other k = add-other h n a (λ e. omega arith) (off-bit n a off)
+    low false k = ap (on h) (add-zero a)
+
+    go : (h ≡ n) ⊎ (h < n) → (h < n → on h a ≡ f h) → on h (a + bitIf (f n) n) ≡ f h
+    go (inl e) rec = subst (λ (k : ℕ). on k (a + bitIf (f n) n) ≡ f k) (sym e) (top (f n))
+    go (inr k) rec = low (f n) k ∙ rec k
+
+-- tests that agree on the relays below n have one mask
+pub bits-ext : (n : ℕ) (f g : ℕ → Bool) → ((v : ℕ) → v < n → f v ≡ g v) → bitsWhere n f ≡ bitsWhere n g
+unfolding bitsWhere
+bits-ext zero f g h = refl
+bits-ext (suc n) f g h = ap₂ (λ (a : ℕ) (b : Bool). a + bitIf b n) (bits-ext n f g (λ v l. h v (omega arith))) (h n (lt-suc-self n))
+
+-- no relay is on in 0
+pub off-zero : (v : ℕ) → on v 0 ≡ false
+off-zero v = false-test (on v 0) (λ p. bit-off v 0 (bit-of-zero v) p)

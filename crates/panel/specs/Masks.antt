@@ -1,6 +1,6 @@
 -- Panels, states and masks: which relays are on, bit by bit.
-use Prim.Native.Nat.{ℕ, _/_, _%_, _^_}
-use mathlib.Core.Bool.{Bool, not, _&&_, _||_}
+use Prim.Native.Nat.{ℕ, zero, suc, _+_, _/_, _%_, _^_}
+use mathlib.Core.Bool.{Bool, true, false, not, _&&_, _||_}
 use mathlib.Core.List.{List, [], _∷_}
 use lib.Dec.{eqb, ltb}
 use Rattle.table.specs.Lists.{all}
@@ -24,3 +24,12 @@ allOn a b = all (λ v. not (on v a) || on v b) relays
 -- every bit of a is off in b
 unfoldable pub allOff : ℕ → ℕ → Bool
 allOff a b = all (λ v. not (on v a) || not (on v b)) relays
+
+abbrev pub bitIf : Bool → ℕ → ℕ
+bitIf true v = 2 ^ v
+bitIf false v = 0
+
+-- the mask in which exactly the relays below n are on at which f passes
+unfoldable pub bitsWhere : ℕ → (ℕ → Bool) → ℕ
+bitsWhere zero f = 0
+bitsWhere (suc v) f = bitsWhere v f + bitIf (f v) v

@@ -3,23 +3,22 @@ use mathlib.Core.Path.{_≡_, refl, sym, ap, ap₂, _∙_, subst}
 use mathlib.Core.Logic.{_⊎_, inl, inr}
 use mathlib.Core.Bool.{Bool, true, false, not, _&&_}
 use mathlib.Core.List.{List, List·Memᴰ as Mem}
-use Prim.Native.Nat.{ℕ, zero, suc, _+_, _-_, _^_, _≤_, _<_}
-use native.Mathlib.Nat.{add-zero, le-of-suc-le-suc, not-suc-le-zero, eq-or-lt-of-le, lt-irrefl, pow-suc, lt-of-lt-of-le}
+use Prim.Native.Nat.{ℕ, _-_, _^_, _≤_, _<_}
+use native.Mathlib.Nat.{lt-of-lt-of-le}
 use native.Mathlib.Omega.{arith}
-use lib.Pow.{pow-pos}
 use lib.Dec.{eqb}
 use borrow.Author.Tests.{eqb-true, eq-eqb}
 use Rattle.panel.specs.Masks.{on, relays}
 use Rattle.panel.specs.Rules.{ruleWord, head, mustOn, mustOff, covers}
 use Rattle.panel.specs.Transitions.{state, next, rests, observed}
-use Rattle.prime.specs.Sheets.{consistent, negative, sheetOf, bitIf, pullsIn, applySheet}
-use Rattle.table.proofs.Basics.{false-test, and-l, and-r, and-i, not-i, not-e, passes, same-test, any-e, any-i, all-e}
-use Rattle.panel.proofs.Masks.{within, apart, bit, within-refl, within-antisym, on-bit, bit-on, off-bit, apart-on, on-within, on-apart, on-below, add-on, add-other, not-on, on-not, same-bits, relays-i}
+use Rattle.prime.specs.Sheets.{consistent, negative, sheetOf, pullsIn, applySheet}
+use Rattle.table.proofs.Basics.{and-l, and-r, and-i, not-i, not-e, passes, same-test, any-e, any-i, all-e}
+use Rattle.panel.proofs.Masks.{within, apart, within-refl, within-antisym, apart-on, on-within, on-apart, not-on, on-not, same-bits, relays-i, bits-lt, bits-on}
 use Rattle.panel.proofs.Words.{Rule, covers-e, covers-i, narrows-e, narrows-covers, mask-small, head-word, mustOn-word, mustOff-word}
 use Rattle.prime.proofs.Least.{member-e, sheet-narrowed}
 use Rattle.prime.proofs.Laws.{spared-e, spared-i, consistent-e, consistent-i}
 
--- ---- negative states, in the words of the document 01
+-- ---- negative states, in the words of document 01
 
 pub negative-e : (es : List ℕ) (h i : ℕ) → negative es h i ≡ true → (t : ℕ) × Mem t es × (state t ≡ i) × (rests t h ≡ true)
 unfolding negative
@@ -57,43 +56,11 @@ pullsIn-i s x h w m e c = any-i (λ v. eqb (head v) h && covers v x) m (and-i (e
 
 pub apply-lt : (n : ℕ) (s : List ℕ) (x : ℕ) → applySheet n s x < 2 ^ n
 unfolding applySheet
-apply-lt zero s x = pow-pos 0
-apply-lt (suc n) s x = go (pullsIn s x n) (apply-lt n s x)
-  where
-    go : (b : Bool) → applySheet n s x < 2 ^ n → applySheet n s x + bitIf b n < 2 ^ suc n
-    go true l = omega (arith, pow-suc 2 n)
-    go false l = omega (arith, pow-suc 2 n)
-
-top-off : (n x : ℕ) → x < 2 ^ n → on n x ≡ true → ⊥
-top-off n x l p = lt-irrefl n (on-below n x n l p)
+apply-lt n s x = bits-lt n (pullsIn s x)
 
 pub apply-on : (n : ℕ) (s : List ℕ) (x h : ℕ) → h < n → on h (applySheet n s x) ≡ pullsIn s x h
 unfolding applySheet
-apply-on zero s x h l = absurd (not-suc-le-zero l)
-apply-on (suc n) s x h l = go (eq-or-lt-of-le (le-of-suc-le-suc l)) (λ (k : h < n). apply-on n s x h k)
-  where
-    a : ℕ
-    a = applySheet n s x
-
-    off : on n a ≡ true → ⊥
-    off = top-off n a (apply-lt n s x)
-
-    top : (b : Bool) → on n (a + bitIf b n) ≡ b
-    top true = bit-on n (a + 2 ^ n) (add-on n a (off-bit n a off))
-    top false = false-test (on n (a + 0)) (λ p. off (subst (λ (y : ℕ). on n y ≡ true) (add-zero a) p))
-
-    low : (b : Bool) → h < n → on h (a + bitIf b n) ≡ on h a
-    low true k =
-        same-test (on h (a + 2 ^ n)) (on h a)
-        (λ p. bit-on h a (sym (other k) ∙ on-bit h (a + 2 ^ n) p)) (λ p. bit-on h (a + 2 ^ n) (other k ∙ on-bit h a p))
-      where
-        other : h < n → bit h (a + 2 ^ n) ≡ bit h a
-        other k = add-other h n a (λ e. omega arith) (off-bit n a off)
-    low false k = ap (on h) (add-zero a)
-
-    go : (h ≡ n) ⊎ (h < n) → (h < n → on h a ≡ pullsIn s x h) → on h (a + bitIf (pullsIn s x n) n) ≡ pullsIn s x h
-    go (inl e) rec = subst (λ (k : ℕ). on k (a + bitIf (pullsIn s x n) n) ≡ pullsIn s x k) (sym e) (top (pullsIn s x n))
-    go (inr k) rec = low (pullsIn s x n) k ∙ rec k
+apply-on n s x h l = bits-on n (pullsIn s x) h l
 
 -- ---- the rule that covers one state only
 

@@ -3,7 +3,7 @@ use mathlib.Core.Path.{_≡_, refl}
 use mathlib.Core.Bool.{Bool, true, false}
 use mathlib.Core.List.{List, [], _∷_}
 use Prim.Native.Nat.{ℕ}
-use Rattle.panel.specs.Masks.{relays, on, allOn, allOff}
+use Rattle.panel.specs.Masks.{relays, on, allOn, allOff, bitsWhere}
 use Rattle.panel.specs.Rules.{ruleWord, head, mustOn, mustOff, validRule, covers, contains, narrows, rules}
 use Rattle.panel.specs.Transitions.{transitionWord, state, next, observed, rests, spared}
 use Rattle.prime.specs.Sheets.{least, sheetWhere, consistent, sheetOf, permits, freshSheet, takeSheet, goodSheet, pullsIn, applySheet}
@@ -40,7 +40,7 @@ unfolding sheetOf sheetWhere least consistent rules ruleWord head mustOn mustOff
 whole-recording = refl
 
 pub applied-to-five : applySheet 3 (2048 ∷ 1053696 ∷ 2097153 ∷ []) 5 ≡ 2
-unfolding applySheet pullsIn head mustOn mustOff covers allOn allOff relays on
+unfolding applySheet bitsWhere pullsIn head mustOn mustOff covers allOn allOff relays on
 applied-to-five = refl
 
 -- K12: the body of the second rule contains that of the first

@@ -1,10 +1,11 @@
 -- The sheet of a set of transitions, good sheets, and what fresh, take, join and apply make of sheets.
-use Prim.Native.Nat.{ℕ, zero, suc, _+_, _^_}
+use Prim.Native.Nat.{ℕ, _^_}
 use mathlib.Core.Bool.{Bool, true, false, not, _&&_, _||_}
 use mathlib.Core.List.{List, [], _∷_}
 use lib.Dec.{eqb}
 use lib.Bits.{bitOr}
 use Rattle.table.specs.Lists.{any, all, filter, each, increasing, missing}
+use Rattle.panel.specs.Masks.{bitsWhere}
 use Rattle.panel.specs.Rules.{ruleWord, head, validRule, covers, narrows, rules}
 use Rattle.panel.specs.Transitions.{state, rests, spared}
 
@@ -78,14 +79,9 @@ addedCount old new = missing old new
 unfoldable pub pullsIn : List ℕ → ℕ → ℕ → Bool
 pullsIn s x h = any (λ w. eqb (head w) h && covers w x) s
 
-abbrev pub bitIf : Bool → ℕ → ℕ
-bitIf true h = 2 ^ h
-bitIf false h = 0
-
 -- apply: of the relays below n, exactly those that some rule pulls in are on
 unfoldable pub applySheet : ℕ → List ℕ → ℕ → ℕ
-applySheet zero s x = 0
-applySheet (suc h) s x = applySheet h s x + bitIf (pullsIn s x h) h
+applySheet n s x = bitsWhere n (pullsIn s x)
 
 abbrev pub orBit : Bool → ℕ → ℕ → ℕ
 orBit true h on = bitOr on (2 ^ h)

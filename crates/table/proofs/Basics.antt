@@ -2,8 +2,8 @@
 use mathlib.Core.Path.{_≡_, refl, sym, ap, _∙_, subst, ap₂}
 use mathlib.Core.Logic.{_⊎_, inl, inr}
 use mathlib.Core.Bool.{Bool, true, false, not, _&&_, _||_, false≢true}
-use mathlib.Core.List.{List, [], _∷_, List·Memᴰ as Mem, List·Memᴰ·head as here, List·Memᴰ·tail as there, List·Memᴰ·append-cases, Memᴰ·append-left, Memᴰ·append-right, _++_}
-use Prim.Native.Nat.{ℕ, zero, suc, _<_}
+use mathlib.Core.List.{List, [], _∷_, List·Memᴰ as Mem, List·Memᴰ·head as here, List·Memᴰ·tail as there, List·Memᴰ·append-cases, Memᴰ·append-left, Memᴰ·append-right, _++_, append-nil, append-assoc}
+use Prim.Native.Nat.{ℕ, zero, suc, _<_, _≤_}
 use native.Mathlib.Nat.{le-of-suc-le-suc, not-suc-le-zero, eq-or-lt-of-le, lt-suc-self}
 use native.Mathlib.Omega.{arith}
 use lib.ListN.{length, getD}
@@ -129,6 +129,17 @@ at-in (x ∷ s) (suc k) l = there (at-in s k (le-of-suc-le-suc l))
 pub each-ext : (k : ℕ) (f g : ℕ → List ℕ) → ((i : ℕ) → i < k → f i ≡ g i) → each k f ≡ each k g
 each-ext zero f g h = refl
 each-ext (suc k) f g h = ap₂ (λ (a b : List ℕ). a ++ b) (each-ext k f g (λ i l. h i (omega arith))) (h k (lt-suc-self k))
+
+-- what is collected below v comes first
+pub each-front : (v n : ℕ) (f : ℕ → List ℕ) → v ≤ n → (zs : List ℕ) × (each n f ≡ each v f ++ zs)
+each-front v zero f l = let e : v ≡ 0 = omega arith in ([], rw e refl)
+each-front v (suc n) f l = go (eq-or-lt-of-le l) (λ (k : v ≤ n). each-front v n f k)
+  where
+    go : (v ≡ suc n) ⊎ (v < suc n) → (v ≤ n → (zs : List ℕ) × (each n f ≡ each v f ++ zs)) → (zs : List ℕ) × (each (suc n) f ≡ each v f ++ zs)
+    go (inl e) rec = ([], rw e (sym (append-nil (each (suc n) f))))
+    go (inr k) rec =
+        let r = rec (le-of-suc-le-suc k) in
+        (r .0 ++ f n, ap (λ (l : List ℕ). l ++ f n) (r .1) ∙ append-assoc (each v f) (r .0) (f n))
 
 pub each-i : (k : ℕ) (f : ℕ → List ℕ) {x : ℕ} (i : ℕ) → i < k → Mem x (f i) → Mem x (each k f)
 each-i zero f i h m = absurd (not-suc-le-zero h)

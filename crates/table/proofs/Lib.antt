@@ -5,3 +5,4 @@ pub mod Inserting
 pub mod Sums
 pub mod Shifting
 pub mod Searching
+pub mod Tables

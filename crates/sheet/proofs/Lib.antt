@@ -1,0 +1,5 @@
+pub mod Stretch
+pub mod Planting
+pub mod Sweeping
+pub mod Tallying
+pub mod Fresh

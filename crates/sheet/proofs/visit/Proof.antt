@@ -1,0 +1,72 @@
+-- `sheet::visit` meets its contract.
+use mathlib.Core.Path.{refl, sym}
+use native.Mathlib.Omega.{arith}
+use denote.Ref.{now}
+use lib.Seq.{length-take-le}
+use borrow.Author.Tests.{not-true, not-false}
+use Rattle.prime.proofs.Passes.{rule-small}
+use Rattle.sheet.proofs.Planting.{visit-spared, visit-later, visit-can, visit-done}
+use borrow.Author.Needs.{needs}
+use Rattle.sheet.proofs.visit.Statement.{statement}
+use Rattle.sheet.proofs.visit.Tie as tie
+
+mul-b : tie.Need-mul-b
+mul-b c = search needs
+
+slice-read-b : tie.Need-slice-read-b
+slice-read-b c = search needs
+
+is-spared-requires : tie.Need-is-spared-requires
+is-spared-requires c κs = search needs
+
+returns : tie.Need-returns
+returns c = visit-spared _ _ _ _ _ _ _ (c .before .is-spared .ensures) (c .if1 .taken) (c .before .before .before .before .pre .fits)
+
+slice-reshare-prefix-heirs-of : tie.Need-slice-reshare-prefix-heirs-of
+slice-reshare-prefix-heirs-of c = search needs
+
+slice-aggregate-heirs-of : tie.Need-slice-aggregate-heirs-of
+slice-aggregate-heirs-of c = sym (length-take-le _ _ (c .before .before .before .before .before .pre .fits))
+
+heirs-of-requires : tie.Need-heirs-of-requires
+heirs-of-requires c κs = (c .before .before .before .before .before .pre .size, c .before .before .before .before .before .pre .sorted, c .before .before .before .before .before .pre .rule)
+
+goes-requires : tie.Need-goes-requires
+goes-requires c κs = search needs
+
+same-length : tie.Need-same-length
+same-length c = search needs
+
+returns-2 : tie.Need-returns-2
+returns-2 c = visit-later _ _ _ _ _ _ _ (c .before .before .before .before .before .is-spared .ensures) (c .before .before .before .before .if1 .left) _ (c .before .before .heirs-of .ensures) _ (c .before .goes .ensures) (not-true _ (c .if2 .taken)) (c .before .before .before .before .before .before .before .before .pre .fits)
+
+state-of-requires : tie.Need-state-of-requires
+state-of-requires c κs = search needs
+
+replant-requires : tie.Need-replant-requires
+replant-requires c κs = (c .before .before .before .before .before .before .before .before .before .before .pre .size, rule-small _ _ (c .before .before .before .before .before .before .before .before .before .before .pre .size) _ refl (c .before .before .before .before .before .before .before .before .before .before .pre .rule), c .before .before .before .before .before .before .before .before .before .before .pre .inside, c .before .before .before .before .before .before .before .before .before .before .pre .fits, c .before .before .before .before .before .before .before .before .before .before .pre .sorted, visit-can _ _ _ _ (now (c .before .before .before .before .before .before .before .before .before .before .args .sheet)) (c .before .before .before .before .before .before .before .before .before .before .args .have) _ (c .before .before .before .before .before .before .before .is-spared .ensures) (c .before .before .before .before .before .before .if1 .left) _ (c .before .before .before .before .heirs-of .ensures) _ (c .before .before .before .goes .ensures) (not-false _ (c .before .before .if2 .left)) (c .before .before .before .before .before .before .before .before .before .before .pre .plants) _ (c .state-of .ensures))
+
+same-length-2 : tie.Need-same-length-2
+same-length-2 c = search needs
+
+returns-3 : tie.Need-returns-3
+returns-3 c = visit-done _ _ _ _ (now (c .before .before .before .before .before .before .before .before .before .before .before .before .before .args .sheet)) (c .before .before .before .before .before .before .before .before .before .before .before .before .before .args .have) _ (c .before .before .before .before .before .before .before .before .before .before .is-spared .ensures) (c .before .before .before .before .before .before .before .before .before .if1 .left) _ (c .before .before .before .before .before .before .before .heirs-of .ensures) _ (c .before .before .before .before .before .before .goes .ensures) (not-false _ (c .before .before .before .before .before .if2 .left)) _ (c .before .before .before .state-of .ensures) _ _ (c .before .before .replant .ensures)
+
+pub visit-spec : {M : Type 1} → statement M
+visit-spec =
+    tie.close
+    (tie.spec
+    mul-b
+    slice-read-b
+    is-spared-requires
+    returns
+    slice-reshare-prefix-heirs-of
+    slice-aggregate-heirs-of
+    heirs-of-requires
+    goes-requires
+    same-length
+    returns-2
+    state-of-requires
+    replant-requires
+    same-length-2
+    returns-3)

@@ -1,0 +1,164 @@
+-- Tables in a slice: a word put in or taken out, the stretch between two places, and how long a table can be.
+use mathlib.Core.Path.{_≡_, refl, sym, ap, ap₂, _∙_, subst}
+use mathlib.Core.Logic.{_⊎_, inl, inr}
+use mathlib.Core.Bool.{Bool, true, false, not}
+use mathlib.Core.List.{List, [], _∷_, _++_, append-assoc, List·Memᴰ as Mem, List·Memᴰ·head as here, List·Memᴰ·tail as there, List·Memᴰ·not-nil}
+use Prim.Native.Nat.{ℕ, zero, suc, _+_, _-_, _≤_, _<_, suc-le-suc}
+use native.Mathlib.Nat.{le-of-suc-le-suc, not-suc-le-zero, zero-lt-suc, lt-irrefl, le-refl}
+use native.Mathlib.Numerals.{add-one}
+use native.Mathlib.Omega.{arith}
+use lib.ListN.{length, take, drop, getD, length-append, length-drop, take-append-drop}
+use lib.Seq.{take-at, take-take, length-take-le, getD-take, getD-drop, drop-at, drop-cons}
+use lib.Dec.{eqb, ltb}
+use borrow.Author.Tests.{eq-eqb, ne-eqb, lt-ltb, ltb-true}
+use Rattle.table.specs.Lists.{consIf, pick, increasing, insert, insertAll, remove}
+use Rattle.table.specs.Surgery.{removedAt, placeOf, oneMoreIf, Holds}
+use Rattle.table.proofs.Basics.{at-in}
+use Rattle.table.proofs.Increasing.{first-below, rest-increasing}
+use Rattle.table.proofs.Inserting.{insert-length}
+use Rattle.table.proofs.Shifting.{slice-take, place-above, place-below}
+
+-- ---- members of parts
+
+pub mem-take : (r : ℕ) (b : List ℕ) {x : ℕ} → Mem x (take r b) → Mem x b
+mem-take zero b m = absurd (List·Memᴰ·not-nil m)
+mem-take (suc r) [] m = m
+mem-take (suc r) (y ∷ ys) (here e) = here e
+mem-take (suc r) (y ∷ ys) (there m) = there (mem-take r ys m)
+
+pub mem-drop : (r : ℕ) (b : List ℕ) {x : ℕ} → Mem x (drop r b) → Mem x b
+mem-drop zero b m = m
+mem-drop (suc r) [] m = m
+mem-drop (suc r) (y ∷ ys) m = there (mem-drop r ys m)
+
+-- a member stands at a place
+pub in-at : {r : ℕ} {s : List ℕ} → Mem r s → (k : ℕ) × (k < length s) × (getD s k 0 ≡ r)
+in-at (here {xs = ys} e) = (zero, zero-lt-suc (length ys), sym e)
+in-at (there m) = let k = in-at m in (suc (k .0), suc-le-suc (k .1), k .2)
+
+-- ---- one in
+
+pub inserted-table : (s e : List ℕ) (count w : ℕ) → count < length s → e ≡ insert w (take count s) ++ drop (count + 1) s
+    → Holds e (count + 1) (length s) (insert w (take count s))
+inserted-table s e count w l q =
+    let n : length (insert w (take count s)) ≡ count + 1 =
+    insert-length w (take count s) ∙ omega (arith, length-take-le count s (omega arith)) in
+    let m : length e ≡ length s =
+    ap length q ∙ length-append (insert w (take count s)) (drop (count + 1) s) ∙ omega (arith, n, length-drop (count + 1) s) in
+    record {
+      is = ap (take (count + 1)) q ∙ take-at (insert w (take count s)) (drop (count + 1) s) (count + 1) n;
+      fits = omega (arith, m, l);
+      same = m;
+    }
+
+-- ---- one out
+
+rest-kept : (b : ℕ) (s : List ℕ) → ((x : ℕ) → Mem x s → x ≡ b → ⊥) → remove b s ≡ s
+unfolding remove
+rest-kept b [] f = refl
+rest-kept b (x ∷ xs) f =
+    ap₂ (λ (a : Bool) (l : List ℕ). consIf a x l) (ap not (ne-eqb x b (f x (here refl)))) (rest-kept b xs (λ y m. f y (there m)))
+
+pub remove-at : (s : List ℕ) (at : ℕ) → increasing s ≡ true → at < length s → remove (getD s at 0) s ≡ take at s ++ drop (suc at) s
+unfolding remove
+remove-at [] at i l = absurd (not-suc-le-zero l)
+remove-at (x ∷ xs) zero i l =
+    ap (λ (a : Bool). consIf (not a) x (remove x xs)) (eq-eqb x x refl)
+    ∙ rest-kept x xs (λ y m e. lt-irrefl x (subst (λ (z : ℕ). x < z) e (first-below x xs i m)))
+remove-at (x ∷ xs) (suc at) i l =
+    ap (λ (a : Bool). consIf (not a) x (remove (getD xs at 0) xs)) (ne-eqb x (getD xs at 0) (λ e. lt-irrefl x (subst (λ (z : ℕ). x < z) (sym e) (first-below x xs i (at-in xs at (le-of-suc-le-suc l))))))
+    ∙ ap (λ (l : List ℕ). x ∷ l) (remove-at xs at (rest-increasing x xs i) (le-of-suc-le-suc l))
+
+pub removed-table : (s e : List ℕ) (count at : ℕ) → at < count → count ≤ length s → increasing (take count s) ≡ true → e ≡ removedAt count at s
+    → Holds e (count - 1) (length s) (remove (getD s at 0) (take count s))
+unfolding removedAt
+removed-table s e count at l h i p =
+    let a : List ℕ = take at s in
+    let b : List ℕ = take (count - (at + 1)) (drop (at + 1) s) in
+    let r : List ℕ = 0 ∷ drop count s in
+    let q : e ≡ (a ++ b) ++ r = p ∙ sym (append-assoc a b r) in
+    let na : length a ≡ at = length-take-le at s (omega arith) in
+    let nb : length b ≡ count - (at + 1) = length-take-le (count - (at + 1)) (drop (at + 1) s) (omega (arith, length-drop (at + 1) s)) in
+    let nab : length (a ++ b) ≡ count - 1 = length-append a b ∙ omega (arith, na, nb) in
+    let tab : List ℕ = take count s in
+    let ntab : length tab ≡ count = length-take-le count s h in
+    let m : length e ≡ length s = ap length q ∙ length-append (a ++ b) r ∙ omega (arith, nab, length-drop count s) in
+    let ga : getD tab at 0 ≡ getD s at 0 = getD-take count s at 0 l in
+    let w : remove (getD s at 0) tab ≡ take at tab ++ drop (suc at) tab =
+    ap (λ (x : ℕ). remove x tab) (sym ga) ∙ remove-at tab at i (omega (arith, ntab)) in
+    let ta : take at tab ≡ a = take-take at count s (omega arith) in
+    let tb : drop (suc at) tab ≡ b = slice-take (suc at) count s l ∙ ap (λ (k : ℕ). take (count - k) (drop k s)) (sym (add-one at)) in
+    record {
+      is = ap (take (count - 1)) q ∙ take-at (a ++ b) r (count - 1) nab ∙ sym (w ∙ ap₂ (λ (x y : List ℕ). x ++ y) ta tb);
+      fits = omega (arith, m);
+      same = m;
+    }
+
+-- ---- words that go behind all of a front part leave it alone
+
+insert-past : (h : ℕ) (xs ys : List ℕ) → ((x : ℕ) → Mem x xs → x < h) → insert h (xs ++ ys) ≡ xs ++ insert h ys
+insert-past h [] ys f = refl
+insert-past h (x ∷ xs) ys f =
+    ap (λ (a : Bool). pick a (x ∷ insert h (xs ++ ys)) (h ∷ x ∷ xs ++ ys)) (lt-ltb x h (f x (here refl)))
+    ∙ ap (λ (l : List ℕ). x ∷ l) (insert-past h xs ys (λ y m. f y (there m)))
+
+pub insertAll-past : (hs xs ys : List ℕ) → ((h x : ℕ) → Mem h hs → Mem x xs → x < h) → insertAll hs (xs ++ ys) ≡ xs ++ insertAll hs ys
+insertAll-past [] xs ys f = refl
+insertAll-past (h ∷ hs) xs ys f =
+    ap (insertAll hs) (insert-past h xs ys (λ x m. f h x (here refl) m))
+    ∙ insertAll-past hs xs (insert h ys) (λ k x m n. f k x (there m) n)
+
+-- the words before a place are below the word there
+pub before-below : (s : List ℕ) (at : ℕ) → increasing s ≡ true → at < length s → (x : ℕ) → Mem x (take at s) → x < getD s at 0
+before-below [] at i l x m = absurd (not-suc-le-zero l)
+before-below (y ∷ s) zero i l x m = absurd (List·Memᴰ·not-nil m)
+before-below (y ∷ s) (suc at) i l x (here e) = rw e (first-below y s i (at-in s at (le-of-suc-le-suc l)))
+before-below (y ∷ s) (suc at) i l x (there m) = before-below s at (rest-increasing y s i) (le-of-suc-le-suc l) x m
+
+-- ---- the stretch between two places
+
+pub place-up : (lo hi : ℕ) (s : List ℕ) → lo ≤ hi → placeOf lo s ≤ placeOf hi s
+place-up lo hi [] l = le-refl 0
+place-up lo hi (x ∷ xs) l = go (ltb x lo) refl (place-up lo hi xs l)
+  where
+    go : (b : Bool) → ltb x lo ≡ b → placeOf lo xs ≤ placeOf hi xs → oneMoreIf b (placeOf lo xs) ≤ oneMoreIf (ltb x hi) (placeOf hi xs)
+    go true e p = rw (lt-ltb x hi (omega (arith, ltb-true x lo e))) (suc-le-suc p)
+    go false e p = omega arith
+
+pub stretch-in : (a e : ℕ) (s : List ℕ) {x : ℕ} → Mem x (take (e - a) (drop a s)) → Mem x s
+stretch-in a e s m = mem-drop a s (mem-take (e - a) (drop a s) m)
+
+at-stretch : (a e p : ℕ) (s : List ℕ) → a ≤ p → p < e → e ≤ length s → Mem (getD s p 0) (take (e - a) (drop a s))
+at-stretch a e p s l k h =
+    let q : p - a < e - a = omega arith in
+    let n₁ : length (take (e - a) (drop a s)) ≡ e - a = length-take-le (e - a) (drop a s) (omega (arith, length-drop a s)) in
+    let w : a + (p - a) ≡ p = omega arith in
+    subst (λ (x : ℕ). Mem x (take (e - a) (drop a s)))
+    (getD-take (e - a) (drop a s) (p - a) 0 q ∙ getD-drop a s (p - a) 0 ∙ ap (λ (z : ℕ). getD s z 0) w)
+    (at-in (take (e - a) (drop a s)) (p - a) (omega (arith, n₁)))
+
+-- the words from lo on and below hi stand from the place of lo to the place of hi
+pub in-stretch : (lo hi a e : ℕ) (s : List ℕ) → increasing s ≡ true → a ≡ placeOf lo s → e ≡ placeOf hi s → e ≤ length s
+    → {x : ℕ} → Mem x s → lo ≤ x → x < hi → Mem x (take (e - a) (drop a s))
+in-stretch lo hi a e s i ea ee le {x} m l h =
+    let k = in-at m in
+    let p = k .0 in
+    subst (λ (y : ℕ). Mem y (take (e - a) (drop a s))) (k .2)
+    (at-stretch a e p s (omega (arith, ea, place-below lo s p (k .1) (omega (arith, k .2)))) (omega (arith, ee, place-above hi s p i (k .1) (omega (arith, k .2)))) le)
+
+-- ---- an increasing list of small numbers is short
+
+short-from : (s : List ℕ) (lo hi : ℕ) → increasing s ≡ true → ((x : ℕ) → Mem x s → (lo ≤ x) × (x < hi)) → length s + lo ≤ hi ⊎ (length s ≡ 0)
+short-from [] lo hi i h = inr refl
+short-from (x ∷ xs) lo hi i h = inl (go (short-from xs (suc x) hi (rest-increasing x xs i) (λ y m. (first-below x xs i m, h y (there m) .1))))
+  where
+    go : length xs + suc x ≤ hi ⊎ (length xs ≡ 0) → suc (length xs) + lo ≤ hi
+    go (inl a) = omega (arith, a, h x (here refl) .0)
+    go (inr e) = omega (arith, e, h x (here refl) .0, h x (here refl) .1)
+
+pub increasing-short : (s : List ℕ) (hi : ℕ) → increasing s ≡ true → ((x : ℕ) → Mem x s → x < hi) → length s ≤ hi
+increasing-short s hi i h = go (short-from s 0 hi i (λ x m. (omega arith, h x m)))
+  where
+    go : length s + 0 ≤ hi ⊎ (length s ≡ 0) → length s ≤ hi
+    go (inl a) = omega (arith, a)
+    go (inr e) = omega (arith, e)
