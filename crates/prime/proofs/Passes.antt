@@ -29,7 +29,7 @@ use Rattle.prime.proofs.Apply.{apply-lt, apply-on, pullsIn-e, pullsIn-i
 
 -- ---- a good book
 
-statesUp-rises : (b : List ℕ) → statesUp b ≡ risesBy state b
+pub statesUp-rises : (b : List ℕ) → statesUp b ≡ risesBy state b
 statesUp-rises [] = refl
 statesUp-rises (t ∷ b) = ap (λ (z : Bool). all (λ u. ltb (state t) (state u)) b && z) (statesUp-rises b)
 
@@ -74,7 +74,7 @@ none-after w r rest l i f =
     meet x e (inl p) = sym (ap head p) ∙ e
     meet x e (inr m) = omega (arith, head-up w r (omega arith), head-up r x (omega (arith, first-below r rest i m)))
 
-increasing-drop : (k : ℕ) (s : List ℕ) → increasing s ≡ true → increasing (drop k s) ≡ true
+pub increasing-drop : (k : ℕ) (s : List ℕ) → increasing s ≡ true → increasing (drop k s) ≡ true
 increasing-drop zero s i = i
 increasing-drop (suc k) [] i = refl
 increasing-drop (suc k) (x ∷ s) i = increasing-drop k s (rest-increasing x s i)
