@@ -16,10 +16,10 @@ use Rattle.panel.specs.Rules.{head}
 use Rattle.panel.proofs.Words.{narrows-e}
 use Rattle.prime.specs.Sheets.{sheetWhere, permits, joinSheet}
 use Rattle.prime.proofs.Least.{Least, permits-e, permits-i, member-e, member-i, sheet-increasing}
-use Rattle.spans.specs.Parts.{between, ofHead, over}
+use Rattle.spans.specs.Parts.{between, ofHead, over, Laid}
 use Rattle.spans.specs.Touching.{bothPermit, touches, bothTouch}
 use Rattle.spans.proofs.Parts.{between-e, between-i, between-increasing, between-unique, between-none, between-whole, between-split}
-use Rattle.spans.proofs.Overwriting.{over-over, over-length, put-over, part-room}
+use Rattle.spans.proofs.Overwriting.{over-over, over-length, laid}
 use Rattle.spans.proofs.Walking.{Counted, Written}
 use Rattle.spans.proofs.Touching.{touches-permits}
 
@@ -126,11 +126,6 @@ join-both n s t = refl
 pub join-room : (n : ℕ) (s t : List ℕ) (k : ℕ) → length (joinSheet n s t) ≤ k → length (sheetWhere n (bothPermit s t)) ≤ k
 join-room n s t k h = rw join-both h
 
--- the end of the walk, said of join
-pub join-end : (n : ℕ) (s t old cur : List ℕ) (at : ℕ) → (cur ≡ over (sheetWhere n (bothPermit s t)) old) × (at ≡ length (sheetWhere n (bothPermit s t)))
-    → (at ≡ length (joinSheet n s t)) × (cur ≡ over (joinSheet n s t) old)
-join-end n s t old cur at e = (e .1 ∙ ap length (join-both n s t), e .0 ∙ ap (λ (x : List ℕ). over x old) (join-both n s t))
-
 touches-head : (h : ℕ) (s s′ : List ℕ) → s′ ≡ ofHead h s → (w : ℕ) → head w ≡ h → touches s′ w ≡ permits s w
 unfolding ofHead
 touches-head h s s′ es w e =
@@ -145,28 +140,6 @@ unfolding bothPermit bothTouch
 both-head n small h s t s′ t′ es et =
     head-ext n small h (bothTouch s′ t′) (bothPermit s t)
     (λ w e. ap₂ (λ (a b : Bool). a && b) (touches-head h s s′ es w e) (touches-head h t t′ et w e))
-
--- the same with the places as code finds them
-pub both-stretch : (n : ℕ) → n ≤ 10 → (h : ℕ) (s t : List ℕ) → increasing s ≡ true → increasing t ≡ true → (la ha lb hb : ℕ)
-    → la ≡ placeOf (h * 1048576) s → ha ≡ placeOf ((h + 1) * 1048576) s → lb ≡ placeOf (h * 1048576) t → hb ≡ placeOf ((h + 1) * 1048576) t
-    → ofHead h (sheetWhere n (bothTouch (take (ha - la) (drop la s)) (take (hb - lb) (drop lb t)))) ≡ ofHead h (sheetWhere n (bothPermit s t))
-both-stretch n small h s t is it la ha lb hb p q x y =
-    both-head n small h s t (take (ha - la) (drop la s)) (take (hb - lb) (drop lb t)) (head-stretch h s is la ha p q) (head-stretch h t it lb hb x y)
-
-module _ (n : ℕ) (small : n ≤ 10) (h : ℕ) (s t : List ℕ) (is : increasing s ≡ true) (it : increasing t ≡ true) (la ha lb hb : ℕ)
-    (p : la ≡ placeOf (h * 1048576) s) (q : ha ≡ placeOf ((h + 1) * 1048576) s) (x : lb ≡ placeOf (h * 1048576) t) (y : hb ≡ placeOf ((h + 1) * 1048576) t)
-    (at : ℕ) (out : List ℕ) (room : at + length (ofHead h (sheetWhere n (bothPermit s t))) ≤ length out) where
-  pub stretch-room : length (ofHead h (sheetWhere n (bothTouch (take (ha - la) (drop la s)) (take (hb - lb) (drop lb t))))) ≤ length (take (length out - at) (drop at out))
-  stretch-room = rw (both-stretch n small h s t is it la ha lb hb p q x y) (part-room at (length (ofHead h (sheetWhere n (bothPermit s t)))) out room)
-
-  pub stretch-written : (r : ℕ) (ys : List ℕ)
-      → (r ≡ length (ofHead h (sheetWhere n (bothTouch (take (ha - la) (drop la s)) (take (hb - lb) (drop lb t))))))
-      × (ys ≡ over (ofHead h (sheetWhere n (bothTouch (take (ha - la) (drop la s)) (take (hb - lb) (drop lb t))))) (take (length out - at) (drop at out)))
-      → (r ≡ length (ofHead h (sheetWhere n (bothPermit s t))))
-      × (take at out ++ (ys ++ drop (length out - at) (drop at out)) ≡ take at out ++ over (ofHead h (sheetWhere n (bothPermit s t))) (drop at out))
-  stretch-written r ys e =
-      let d = both-stretch n small h s t is it la ha lb hb p q x y in
-      (e .0 ∙ ap length d, put-over at out (ofHead h (sheetWhere n (bothPermit s t))) ys (omega arith) (e .1 ∙ ap (λ (z : List ℕ). over z (take (length out - at) (drop at out))) d))
 
 and-no : (a b : Bool) → b ≡ false → (a && b) ≡ true → ⊥
 and-no true b e p = false≢true (sym e ∙ p)
@@ -195,10 +168,11 @@ module _ (n : ℕ) (small : n ≤ 10) (q : ℕ → Bool) where
   unfolding ofHead
   next-head h = between-split (sheetWhere n q) (sheet-increasing n small q) 0 (h * 1048576) ((h + 1) * 1048576) (omega arith) (omega arith)
 
-  pub heads-more : (h k x : ℕ) → Counted (sheetWhere n q) 0 (h * 1048576) k → x ≡ length (ofHead h (sheetWhere n q)) → x ≤ 1048576
+  -- found is the part of the head h, as the walk through the head gave it
+  pub heads-more : (h k x : ℕ) (found : List ℕ) → found ≡ ofHead h (sheetWhere n q) → Counted (sheetWhere n q) 0 (h * 1048576) k → x ≡ length found → x ≤ 1048576
       → Counted (sheetWhere n q) 0 ((h + 1) * 1048576) (k + x)
-  heads-more h k x c e l = record {
-    is = ap₂ (λ (i j : ℕ). i + j) (c .is) e ∙ sym (length-append (between 0 (h * 1048576) (sheetWhere n q)) (ofHead h (sheetWhere n q))) ∙ ap length (sym (next-head h));
+  heads-more h k x found ef c e l = record {
+    is = ap₂ (λ (i j : ℕ). i + j) (c .is) (e ∙ ap length ef) ∙ sym (length-append (between 0 (h * 1048576) (sheetWhere n q)) (ofHead h (sheetWhere n q))) ∙ ap length (sym (next-head h));
     few = omega (arith, c .few);
   }
 
@@ -207,12 +181,16 @@ module _ (n : ℕ) (small : n ≤ 10) (q : ℕ → Bool) where
       let e : h ≡ n = omega arith in
       subst (λ (x : ℕ). k ≡ length (between 0 (x * 1048576) (sheetWhere n q))) e (c .is) ∙ ap length below-all
 
-  module _ (h : ℕ) (old cur : List ℕ) (at : ℕ) (c : Written (sheetWhere n q) 0 (h * 1048576) old cur at) where
-    part : length (between 0 ((h + 1) * 1048576) (sheetWhere n q)) ≡ at + length (ofHead h (sheetWhere n q))
-    part = ap length (next-head h) ∙ length-append (between 0 (h * 1048576) (sheetWhere n q)) (ofHead h (sheetWhere n q)) ∙ ap (λ (i : ℕ). i + length (ofHead h (sheetWhere n q))) (sym (c .place))
+  module _ (h : ℕ) (l : h < n) (old cur : List ℕ) (at : ℕ) (c : Written (sheetWhere n q) 0 (h * 1048576) old cur at) (room : length (sheetWhere n q) ≤ length old)
+      (found : List ℕ) (ef : found ≡ ofHead h (sheetWhere n q)) where
+    part : length (between 0 ((h + 1) * 1048576) (sheetWhere n q)) ≡ at + length found
+    part =
+        ap length (next-head h)
+        ∙ length-append (between 0 (h * 1048576) (sheetWhere n q)) (ofHead h (sheetWhere n q))
+        ∙ ap₂ (λ (i j : ℕ). i + j) (sym (c .place)) (ap length (sym ef))
 
-    pub heads-room : h < n → length (sheetWhere n q) ≤ length old → at + length (ofHead h (sheetWhere n q)) ≤ length cur
-    heads-room l room =
+    pub heads-room : at + length found ≤ length cur
+    heads-room =
         omega (
           arith,
           part,
@@ -223,13 +201,13 @@ module _ (n : ℕ) (small : n ≤ 10) (q : ℕ → Bool) where
           length-append (between 0 ((h + 1) * 1048576) (sheetWhere n q)) (between ((h + 1) * 1048576) (n * 1048576) (sheetWhere n q)),
         )
 
-    pub heads-written : h < n → length (sheetWhere n q) ≤ length old → (new : List ℕ) (x : ℕ) → new ≡ take at cur ++ over (ofHead h (sheetWhere n q)) (drop at cur)
-        → x ≡ length (ofHead h (sheetWhere n q)) → Written (sheetWhere n q) 0 ((h + 1) * 1048576) old new (at + x)
-    heads-written l room new x en ex =
-        let f = heads-room l room in
+    pub heads-written : (new : List ℕ) (x : ℕ) → new ≡ take at cur ++ over found (drop at cur) → x ≡ length found → Written (sheetWhere n q) 0 ((h + 1) * 1048576) old new (at + x)
+    heads-written new x en ex =
+        let f = heads-room in
         let e : new ≡ over (between 0 ((h + 1) * 1048576) (sheetWhere n q)) old =
-        en ∙ ap₂ (λ (i : ℕ) (t : List ℕ). take i t ++ over (ofHead h (sheetWhere n q)) (drop i t)) (c .place) (c .is)
-        ∙ over-over (between 0 (h * 1048576) (sheetWhere n q)) (ofHead h (sheetWhere n q)) old ∙ ap (λ (t : List ℕ). over t old) (sym (next-head h)) in
+        en ∙ ap₂ (λ (i : ℕ) (t : List ℕ). take i t ++ over found (drop i t)) (c .place) (c .is)
+        ∙ over-over (between 0 (h * 1048576) (sheetWhere n q)) found old
+        ∙ ap (λ (t : List ℕ). over t old) (ap (λ (t : List ℕ). between 0 (h * 1048576) (sheetWhere n q) ++ t) ef ∙ sym (next-head h)) in
         record {
           is = e;
           place = ap (λ (i : ℕ). at + i) ex ∙ sym part;
@@ -238,9 +216,9 @@ module _ (n : ℕ) (small : n ≤ 10) (q : ℕ → Bool) where
           fits = omega (arith, c .same);
         }
 
-  pub heads-end : (h : ℕ) (old cur : List ℕ) (at : ℕ) → Written (sheetWhere n q) 0 (h * 1048576) old cur at → h ≤ n → n ≤ h
-      → (cur ≡ over (sheetWhere n q) old) × (at ≡ length (sheetWhere n q))
-  heads-end h old cur at c a b =
+  pub heads-laid : (h : ℕ) (old cur : List ℕ) (at : ℕ) → Written (sheetWhere n q) 0 (h * 1048576) old cur at → length (sheetWhere n q) ≤ length old → h ≤ n → n ≤ h
+      → Laid old cur at (sheetWhere n q)
+  heads-laid h old cur at c room a b =
       let e : h ≡ n = omega arith in
       let d : between 0 (h * 1048576) (sheetWhere n q) ≡ sheetWhere n q = ap (λ (x : ℕ). between 0 (x * 1048576) (sheetWhere n q)) e ∙ below-all in
-      (c .is ∙ ap (λ (t : List ℕ). over t old) d, c .place ∙ ap length d)
+      laid old cur (sheetWhere n q) at (c .place ∙ ap length d) (c .is ∙ ap (λ (t : List ℕ). over t old) d) room

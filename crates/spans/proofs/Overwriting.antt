@@ -9,7 +9,7 @@ use lib.ListN.{length, take, drop, set, length-append, length-drop, replicate, d
 use lib.Seq.{drop-append-seam, take-append-seam, drop-drop, take-all}
 use Rattle.table.specs.Lists.{consIf}
 use Rattle.table.specs.Surgery.{filled, clearedFrom}
-use Rattle.spans.specs.Parts.{oneIf, over, putIf}
+use Rattle.spans.specs.Parts.{oneIf, over, putIf, Laid}
 
 pub over-length : (xs s : List ℕ) → length xs ≤ length s → length (over xs s) ≡ length s
 unfolding over
@@ -38,15 +38,28 @@ over-over xs ys s =
     ∙ ap (λ (t : List ℕ). xs ++ (ys ++ t)) (drop-drop (length ys) (length xs) s ∙ ap (λ (k : ℕ). drop k s) (sym (length-append xs ys)))
     ∙ sym (append-assoc xs ys (drop (length (xs ++ ys)) s))
 
-pub over-front : (xs s : List ℕ) → take (length xs) (over xs s) ≡ xs
+over-front : (xs s : List ℕ) → take (length xs) (over xs s) ≡ xs
 unfolding over
 over-front xs s = take-append-seam xs (drop (length xs) s)
 
--- write the sheet, then clear from its length on
-pub over-cleared : (xs s : List ℕ) → length xs ≤ length s → clearedFrom (length xs) (over xs s) ≡ filled (length s) xs
+-- what a walk has written, told as the words in use
+pub laid : (old s tab : List ℕ) (r : ℕ) → r ≡ length tab → s ≡ over tab old → length tab ≤ length old → Laid old s r tab
+laid old s tab r er es h = record {
+  count = er;
+  whole = es;
+  holds = record {
+    is = ap₂ take er es ∙ over-front tab old;
+    fits = omega (arith, er, ap length es, over-length tab old h);
+    same = ap length es ∙ over-length tab old h;
+  };
+}
+
+-- write the table, then clear from its length on
+pub laid-cleared : (old s tab : List ℕ) (r : ℕ) → Laid old s r tab → clearedFrom r s ≡ filled (length old) tab
 unfolding clearedFrom filled
-over-cleared xs s h =
-    ap₂ (λ (a : List ℕ) (k : ℕ). a ++ replicate (k - length xs) 0) (over-front xs s) (over-length xs s h)
+laid-cleared old s tab r l =
+    ap₂ (λ (a : List ℕ) (k : ℕ). a ++ replicate (k - r) 0) (l .holds .is) (l .holds .same)
+    ∙ ap (λ (k : ℕ). tab ++ replicate (length old - k) 0) (l .count)
 
 -- a part lent from at on has come back with xs over its front
 pub put-over : (at : ℕ) (s xs ys : List ℕ) → at ≤ length s → ys ≡ over xs (take (length s - at) (drop at s))
@@ -54,9 +67,6 @@ pub put-over : (at : ℕ) (s xs ys : List ℕ) → at ≤ length s → ys ≡ ov
 put-over at s xs ys h e =
     let k : length (drop at s) ≡ length s - at = length-drop at s in
     rw (e, take-all (length s - at) (drop at s) (omega arith), drop-of-length-le (drop at s) {i = length s - at} (omega arith), append-nil)
-
-pub part-room : (at k : ℕ) (s : List ℕ) → at + k ≤ length s → k ≤ length (take (length s - at) (drop at s))
-part-room at k s h = rw (take-all (length s - at) (drop at s) (omega (arith, length-drop at s))) (omega (arith, length-drop at s))
 
 pub nothing-over : (xs s : List ℕ) → 0 ≡ length xs → (0 ≡ length xs) × (s ≡ over xs s)
 unfolding over

@@ -1,15 +1,17 @@
 -- Inside one head a rule permits a word when all bits of the one are on in the other.
 use mathlib.Core.Path.{_≡_, ap, ap₂, _∙_}
-use mathlib.Core.Bool.{true}
+use mathlib.Core.Bool.{Bool, true, false}
 use mathlib.Core.List.{List, List·Memᴰ as Mem}
 use Prim.Native.Nat.{ℕ, _+_, _*_, _<_}
 use native.Mathlib.Omega.{arith}
 use lib.Bits.{bitAnd, and-block, and-lt, and-self}
 use Rattle.table.specs.Lists.{any}
-use Rattle.table.proofs.Basics.{same-test, any-e, any-i}
+use Rattle.table.proofs.Basics.{same-test, false-test, any-e, any-i}
+use Rattle.table.proofs.Searching.{anyLeft, any-start}
 use Rattle.panel.specs.Rules.{head, mustOn, mustOff, narrows}
 use Rattle.panel.proofs.Masks.{within, within-eq, eq-within, within-trans}
 use Rattle.panel.proofs.Words.{mustOn-small, mustOff-small, narrows-e, narrows-i, word-fields, ruleWord-is}
+use Rattle.panel.proofs.Judging.{both-then, both-else}
 use Rattle.prime.specs.Sheets.{permits}
 use Rattle.prime.proofs.Least.{Upward, both-up}
 use Rattle.spans.specs.Touching.{touches, bothTouch}
@@ -74,3 +76,23 @@ touches-up n s w r rw′ rr p e =
 pub both-touch-up : (n : ℕ) (s t : List ℕ) → Upward n (bothTouch s t)
 unfolding bothTouch
 both-touch-up n s t = both-up n (touches s) (touches t) (touches-up n s) (touches-up n t)
+
+-- ---- `s[k] & w == s[k]`, in a loop
+
+pub touches-start : (s : List ℕ) (w : ℕ) → touches s w ≡ anyLeft (λ r. within r w) s 0
+unfolding touches
+touches-start s w = any-start (λ r. within r w) s
+
+pub within-not : (r w : ℕ) → (bitAnd r w ≡ r → ⊥) → within r w ≡ false
+within-not r w f = false-test (within r w) (λ e. f (within-eq r w e))
+
+-- ---- `if touches(s) { touches(t) } else { false }`
+
+module _ (s t : List ℕ) (w : ℕ) (x : Bool) (e : x ≡ touches s w) where
+  pub both-touch-then : x ≡ true → (y : Bool) → y ≡ touches t w → y ≡ bothTouch s t w
+  unfolding bothTouch
+  both-touch-then p y f = both-then x (touches s w) (touches t w) y e p f
+
+  pub both-touch-else : x ≡ false → false ≡ bothTouch s t w
+  unfolding bothTouch
+  both-touch-else p = both-else x (touches s w) (touches t w) e p

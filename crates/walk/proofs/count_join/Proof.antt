@@ -1,0 +1,62 @@
+-- `walk::count_join` meets its contract.
+use mathlib.Core.Path.{ap, _∙_}
+use Prim.Native.Nat.{_≤_, _*_, _-_}
+use native.Mathlib.Omega.{arith}
+use lib.ListN.{length}
+use Rattle.prime.specs.Sheets.{sheetWhere}
+use Rattle.prime.proofs.Least.{good-e}
+use Rattle.spans.specs.Touching.{bothPermit}
+use Rattle.spans.proofs.Walking.{Counted, counted-start}
+use Rattle.spans.proofs.Heads.{heads-more, heads-done, join-both, both-head}
+use borrow.Author.Needs.{needs}
+use Rattle.walk.proofs.count_join.Statement.{statement}
+use Rattle.walk.proofs.count_join.Tie as tie
+
+abbrev Inv-loop : tie.InvT-loop
+Inv-loop n a b h₀ k₀ h k = (h ≤ n) × Counted (sheetWhere n (bothPermit a b)) 0 (h * 1048576) k
+
+abbrev μ-loop : tie.MeasureT-loop
+μ-loop n a b h₀ k₀ h k = n - h
+
+loop-holds : tie.Need-loop-holds Inv-loop μ-loop
+loop-holds c = (omega arith, counted-start _ (c .before .before .pre .0) _ 0)
+
+stretch-requires : tie.Need-stretch-requires Inv-loop μ-loop
+stretch-requires c κs = (omega arith, good-e _ _ (c .before .before .before .before .pre .1) .sorted)
+
+stretch-requires-2 : tie.Need-stretch-requires-2 Inv-loop μ-loop
+stretch-requires-2 c κs = (omega arith, good-e _ _ (c .before .before .before .before .before .pre .2) .sorted)
+
+count-head-requires : tie.Need-count-head-requires Inv-loop μ-loop
+count-head-requires c κs = search needs
+
+add-k : tie.Need-add-k Inv-loop μ-loop
+add-k c = omega (arith, c .before .before .before .before .loop .inv .1 .few, c .count-head .ensures .1)
+
+add-h : tie.Need-add-h Inv-loop μ-loop
+add-h c = search needs
+
+loop-less : tie.Need-loop-less Inv-loop μ-loop
+loop-less c = search needs
+
+loop-again : tie.Need-loop-again Inv-loop μ-loop
+loop-again c = (omega arith, heads-more _ (c .before .before .before .before .before .before .before .pre .0) _ _ _ _ _ (both-head _ (c .before .before .before .before .before .before .before .pre .0) _ _ _ _ _ (c .before .before .stretch .ensures) (c .before .stretch2 .ensures)) (c .before .before .before .before .loop .inv .1) (c .count-head .ensures .0) (c .count-head .ensures .1))
+
+returns : tie.Need-returns Inv-loop μ-loop
+returns c = heads-done _ (c .before .before .before .before .pre .0) _ _ _ (c .before .loop .inv .1) (c .before .loop .inv .0) (omega arith) ∙ ap length (join-both _ _ _)
+
+pub count-join-spec : {M : Type 1} → statement M
+count-join-spec =
+    tie.close
+    (tie.spec
+    Inv-loop
+    μ-loop
+    loop-holds
+    stretch-requires
+    stretch-requires-2
+    count-head-requires
+    add-k
+    add-h
+    loop-less
+    loop-again
+    returns)
