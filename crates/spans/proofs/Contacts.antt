@@ -1,5 +1,5 @@
 -- One contact fewer in a rule: the rule with it back is a candidate.
-use mathlib.Core.Path.{_≡_, refl, sym, ap, ap₂, _∙_, subst}
+use mathlib.Core.Path.{_≡_, sym, ap, ap₂, _∙_, subst}
 use mathlib.Core.Logic.{_⊎_, inl, inr}
 use mathlib.Core.Bool.{Bool, true, false}
 use Prim.Native.Nat.{ℕ, zero, suc, _+_, _-_, _*_, _/_, _%_, _^_, _≤_, _<_}
@@ -17,7 +17,7 @@ use Rattle.spans.specs.Fewer.{pickWord, without}
 
 -- ---- one bit fewer in a mask
 
-pub on-le : (v x : ℕ) → on v x ≡ true → 2 ^ v ≤ x
+on-le : (v x : ℕ) → on v x ≡ true → 2 ^ v ≤ x
 on-le zero x p = omega (arith, on-bit zero x p, bit-zero x)
 on-le (suc v) x p = omega (arith, pow-suc 2 v, on-le v (x / 2) (sym (on-suc v x) ∙ p))
 

@@ -8,7 +8,7 @@ use native.Mathlib.Numerals.{add-one}
 use native.Mathlib.Omega.{arith}
 use lib.Dec.{eqb}
 use borrow.Author.Tests.{eqb-true, eq-eqb}
-use Rattle.table.proofs.Basics.{and-l, and-r, and-i, or-e, or-l, or-r, not-i, not-e, either, same-test, false-test}
+use Rattle.table.proofs.Basics.{and-l, and-r, and-i, or-e, or-l, or-r, not-i, not-e, either, false-test}
 use Rattle.panel.specs.Masks.{on}
 use Rattle.panel.specs.Rules.{mustOn, mustOff, narrows}
 use Rattle.panel.specs.Contacts.{free}
@@ -118,24 +118,24 @@ smaller-other q w x d y e = e ∙ sym (ap (λ (b : Bool). not b && q x) (false-t
 -- ---- `without` as code finds it: x is 2^v, p and m the masks, a and b the bits
 
 module _ (w v x : ℕ) (ex : x ≡ 2 ^ v) (p : ℕ) (a : Bool) (ep : p ≡ mustOn w) (ea : a ≡ on v p) where
-  bit-on : a ≡ on v (mustOn w)
-  bit-on = ea ∙ ap (on v) ep
+  in-on : a ≡ on v (mustOn w)
+  in-on = ea ∙ ap (on v) ep
 
   pub drop-room-on : a ≡ true → x * 1024 ≤ w
-  drop-room-on t = omega (arith, ex, room-on w v (sym bit-on ∙ t))
+  drop-room-on t = omega (arith, ex, room-on w v (sym in-on ∙ t))
 
   pub drop-on : a ≡ true → w - x * 1024 ≡ without w v
-  drop-on t = ap (λ (y : ℕ). w - y * 1024) ex ∙ without-on w v (sym bit-on ∙ t)
+  drop-on t = ap (λ (y : ℕ). w - y * 1024) ex ∙ without-on w v (sym in-on ∙ t)
 
   module _ (f : a ≡ false) (m : ℕ) (b : Bool) (em : m ≡ mustOff w) (eb : b ≡ on v m) where
-    bit-off : b ≡ on v (mustOff w)
-    bit-off = eb ∙ ap (on v) em
+    in-off : b ≡ on v (mustOff w)
+    in-off = eb ∙ ap (on v) em
 
     pub drop-room-off : b ≡ true → x ≤ w
-    drop-room-off t = omega (arith, ex, room-off w v (sym bit-off ∙ t))
+    drop-room-off t = omega (arith, ex, room-off w v (sym in-off ∙ t))
 
     pub drop-off : b ≡ true → w - x ≡ without w v
-    drop-off t = ap (λ (y : ℕ). w - y) ex ∙ without-off w v (sym bit-on ∙ f) (sym bit-off ∙ t)
+    drop-off t = ap (λ (y : ℕ). w - y) ex ∙ without-off w v (sym in-on ∙ f) (sym in-off ∙ t)
 
     pub drop-none : b ≡ false → w ≡ without w v
-    drop-none t = without-none w v (sym bit-on ∙ f) (sym bit-off ∙ t)
+    drop-none t = without-none w v (sym in-on ∙ f) (sym in-off ∙ t)

@@ -1,48 +1,28 @@
--- From head to head: the part of a sheet that belongs to a head, the stretch of a slice that holds it, and all heads in turn.
+-- From head to head, for any test: the part of a sheet that belongs to a head, and all heads in turn.
 use mathlib.Core.Path.{_≡_, refl, sym, ap, ap₂, _∙_, subst}
-use mathlib.Core.Bool.{Bool, true, false, _&&_, false≢true}
-use mathlib.Core.List.{List, [], _∷_, _++_, List·Memᴰ as Mem, List·Memᴰ·head as here}
-use Prim.Native.Nat.{ℕ, suc, _+_, _-_, _*_, _≤_, _<_}
-use native.Mathlib.Nat.{sub-zero, suc-sub-suc}
+use mathlib.Core.Bool.{Bool, true}
+use mathlib.Core.List.{List, _++_}
+use Prim.Native.Nat.{ℕ, _+_, _*_, _≤_, _<_}
 use native.Mathlib.Omega.{arith}
-use lib.Dec.{ltb, leb}
 use lib.ListN.{length, take, drop, length-append}
-use borrow.Author.Tests.{ltb-true, ltb-false, le-ltb, lt-leb, le-leb}
-use Rattle.table.specs.Lists.{consIf, increasing}
-use Rattle.table.specs.Surgery.{placeOf, oneMoreIf}
-use Rattle.table.proofs.Basics.{same-test}
-use Rattle.table.proofs.Increasing.{first-below, rest-increasing}
 use Rattle.panel.specs.Rules.{head}
 use Rattle.panel.proofs.Words.{narrows-e}
-use Rattle.prime.specs.Sheets.{sheetWhere, permits, joinSheet}
-use Rattle.prime.proofs.Least.{Least, permits-e, permits-i, member-e, member-i, sheet-increasing}
+use Rattle.prime.specs.Sheets.{sheetWhere}
+use Rattle.prime.proofs.Least.{Least, member-e, member-i, sheet-increasing}
 use Rattle.spans.specs.Parts.{between, ofHead, over, Laid}
-use Rattle.spans.specs.Touching.{bothPermit, touches, bothTouch}
 use Rattle.spans.proofs.Parts.{between-e, between-i, between-increasing, between-unique, between-none, between-whole, between-split}
 use Rattle.spans.proofs.Overwriting.{over-over, over-length, laid}
 use Rattle.spans.proofs.Walking.{Counted, Written}
-use Rattle.spans.proofs.Touching.{touches-permits}
 
 -- ---- which words belong to a head
 
-head-range : (h w : ℕ) → head w ≡ h → (h * 1048576 ≤ w) × (w < (h + 1) * 1048576)
+pub head-range : (h w : ℕ) → head w ≡ h → (h * 1048576 ≤ w) × (w < (h + 1) * 1048576)
 unfolding head
 head-range h w e = (omega arith, omega arith)
 
-range-head : (h w : ℕ) → h * 1048576 ≤ w → w < (h + 1) * 1048576 → head w ≡ h
+pub range-head : (h w : ℕ) → h * 1048576 ≤ w → w < (h + 1) * 1048576 → head w ≡ h
 unfolding head
 range-head h w a b = omega arith
-
--- a head's bodies are permitted by the rules of that head alone
-pub permits-head : (h : ℕ) (s : List ℕ) (w : ℕ) → head w ≡ h → permits (ofHead h s) w ≡ permits s w
-unfolding ofHead
-permits-head h s w e =
-    same-test (permits (between (h * 1048576) ((h + 1) * 1048576) s) w) (permits s w)
-    (λ p. let k = permits-e (between (h * 1048576) ((h + 1) * 1048576) s) w p in
-    permits-i s w (between-e (h * 1048576) ((h + 1) * 1048576) s (k .0) (k .1) .0) (k .2))
-    (λ p. let k = permits-e s w p in
-    let r = head-range h (k .0) (sym (narrows-e w (k .0) (k .2) .one-head) ∙ e) in
-    permits-i (between (h * 1048576) ((h + 1) * 1048576) s) w (between-i (h * 1048576) ((h + 1) * 1048576) s (k .0) (k .1) (r .0) (r .1)) (k .2))
 
 module _ (n : ℕ) (small : n ≤ 10) (h : ℕ) where
   least-head : (q q′ : ℕ → Bool) → ((w : ℕ) → head w ≡ h → q w ≡ q′ w) → (w : ℕ) → head w ≡ h → Least n q w → Least n q′ w
@@ -69,92 +49,6 @@ module _ (n : ℕ) (small : n ≤ 10) (h : ℕ) where
   head-none q f =
       ap length (sym (between-none (h * 1048576) ((h + 1) * 1048576) (sheetWhere n q) (sheet-increasing n small q)
       (λ w m a b. f w (member-e n small q w m .1 .holds))))
-
--- ---- the stretch of a slice
-
-place-zero : (x : ℕ) (s : List ℕ) → ((w : ℕ) → Mem w s → x ≤ w) → placeOf x s ≡ 0
-place-zero x [] f = refl
-place-zero x (z ∷ zs) f = ap (λ (b : Bool). oneMoreIf b (placeOf x zs)) (le-ltb z x (f z (here refl)))
-
-pub stretch : (x y : ℕ) → x ≤ y → (s : List ℕ) → increasing s ≡ true
-    → take (placeOf y s - placeOf x s) (drop (placeOf x s) s) ≡ between x y s
-unfolding between
-stretch x y l [] e = refl
-stretch x y l (z ∷ zs) e = go (ltb z x) refl (ltb z y) refl (stretch x y l zs (rest-increasing z zs e))
-  where
-    shape : (a b c : Bool) → ltb z x ≡ a → ltb z y ≡ b → leb x z ≡ c
-        → take (oneMoreIf b (placeOf y zs) - oneMoreIf a (placeOf x zs)) (drop (oneMoreIf a (placeOf x zs)) (z ∷ zs)) ≡ consIf (c && b) z (between x y zs)
-        → take (placeOf y (z ∷ zs) - placeOf x (z ∷ zs)) (drop (placeOf x (z ∷ zs)) (z ∷ zs)) ≡ between x y (z ∷ zs)
-    shape a b c p q r g = rw (p, q, r) g
-
-    go : (a : Bool) → ltb z x ≡ a → (b : Bool) → ltb z y ≡ b → take (placeOf y zs - placeOf x zs) (drop (placeOf x zs) zs) ≡ between x y zs
-        → take (placeOf y (z ∷ zs) - placeOf x (z ∷ zs)) (drop (placeOf x (z ∷ zs)) (z ∷ zs)) ≡ between x y (z ∷ zs)
-    go true p true q ih = shape true true false p q (lt-leb x z (ltb-true z x p)) (rw suc-sub-suc ih)
-    go true p false q ih = absurd (omega (arith, ltb-true z x p, ltb-false z y q))
-    go false p true q ih =
-        let i : placeOf x zs ≡ 0 = place-zero x zs (λ w m. omega (arith, ltb-false z x p, first-below z zs e m)) in
-        shape false true true p q (le-leb x z (ltb-false z x p))
-        (rw sub-zero (ap (λ (t : List ℕ). z ∷ t) (rw (i, sub-zero) at ih)))
-    go false p false q ih =
-        shape false false true p q (le-leb x z (ltb-false z x p))
-        (sym (between-none x y zs (rest-increasing z zs e) (λ w m a b. omega (arith, ltb-false z y q, first-below z zs e m, b))))
-
-pub head-stretch : (h : ℕ) (s : List ℕ) → increasing s ≡ true → (lo hi : ℕ) → lo ≡ placeOf (h * 1048576) s → hi ≡ placeOf ((h + 1) * 1048576) s
-    → take (hi - lo) (drop lo s) ≡ ofHead h s
-unfolding ofHead
-head-stretch h s e lo hi p q =
-    ap₂ (λ (i j : ℕ). take (j - i) (drop i s)) p q ∙ stretch (h * 1048576) ((h + 1) * 1048576) (omega arith) s e
-
-place-mono : (x y : ℕ) → x ≤ y → (s : List ℕ) → placeOf x s ≤ placeOf y s
-place-mono x y l [] = omega arith
-place-mono x y l (z ∷ zs) = go (ltb z x) refl (ltb z y) refl (place-mono x y l zs)
-  where
-    go : (a : Bool) → ltb z x ≡ a → (b : Bool) → ltb z y ≡ b → placeOf x zs ≤ placeOf y zs → placeOf x (z ∷ zs) ≤ placeOf y (z ∷ zs)
-    go true p true q ih = rw (p, q) (omega arith)
-    go true p false q ih = absurd (omega (arith, ltb-true z x p, ltb-false z y q))
-    go false p b q ih = rw p (omega arith)
-
-pub stretch-order : (h : ℕ) (s : List ℕ) (lo hi : ℕ) → lo ≡ placeOf (h * 1048576) s → hi ≡ placeOf ((h + 1) * 1048576) s → lo ≤ hi
-stretch-order h s lo hi p q = omega (arith, place-mono (h * 1048576) ((h + 1) * 1048576) (omega arith) s)
-
--- ---- both sheets permit
-
-pub join-both : (n : ℕ) (s t : List ℕ) → sheetWhere n (bothPermit s t) ≡ joinSheet n s t
-unfolding bothPermit joinSheet
-join-both n s t = refl
-
-pub join-room : (n : ℕ) (s t : List ℕ) (k : ℕ) → length (joinSheet n s t) ≤ k → length (sheetWhere n (bothPermit s t)) ≤ k
-join-room n s t k h = rw join-both h
-
-touches-head : (h : ℕ) (s s′ : List ℕ) → s′ ≡ ofHead h s → (w : ℕ) → head w ≡ h → touches s′ w ≡ permits s w
-unfolding ofHead
-touches-head h s s′ es w e =
-    ap (λ (x : List ℕ). touches x w) es
-    ∙ touches-permits (ofHead h s) w (λ r m. let k = between-e (h * 1048576) ((h + 1) * 1048576) s r m in e ∙ sym (range-head h r (k .1) (k .2)))
-    ∙ permits-head h s w e
-
--- the stretches of a head do for the whole sheets, and the quick test for `permits`
-pub both-head : (n : ℕ) → n ≤ 10 → (h : ℕ) (s t s′ t′ : List ℕ) → s′ ≡ ofHead h s → t′ ≡ ofHead h t
-    → ofHead h (sheetWhere n (bothTouch s′ t′)) ≡ ofHead h (sheetWhere n (bothPermit s t))
-unfolding bothPermit bothTouch
-both-head n small h s t s′ t′ es et =
-    head-ext n small h (bothTouch s′ t′) (bothPermit s t)
-    (λ w e. ap₂ (λ (a b : Bool). a && b) (touches-head h s s′ es w e) (touches-head h t t′ et w e))
-
-and-no : (a b : Bool) → b ≡ false → (a && b) ≡ true → ⊥
-and-no true b e p = false≢true (sym e ∙ p)
-and-no false b e p = false≢true p
-
--- a head that has no rule on one side
-pub left-none : (n : ℕ) → n ≤ 10 → (h : ℕ) (s t : List ℕ) → length s ≡ 0 → 0 ≡ length (ofHead h (sheetWhere n (bothTouch s t)))
-unfolding bothTouch touches
-left-none n small h [] t e = head-none n small h (bothTouch [] t) (λ w p. false≢true p)
-left-none n small h (x ∷ s) t e = absurd (omega (arith, e))
-
-pub right-none : (n : ℕ) → n ≤ 10 → (h : ℕ) (s t : List ℕ) → length t ≡ 0 → 0 ≡ length (ofHead h (sheetWhere n (bothTouch s t)))
-unfolding bothTouch touches
-right-none n small h s [] e = head-none n small h (bothTouch s []) (λ w p. and-no (touches s w) false refl p)
-right-none n small h s (x ∷ t) e = absurd (omega (arith, e))
 
 -- ---- from head to head
 

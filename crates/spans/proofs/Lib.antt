@@ -5,5 +5,7 @@ pub mod Fewer
 pub mod NextMask
 pub mod Steps
 pub mod Walking
-pub mod Touching
+pub mod Stretches
 pub mod Heads
+pub mod Touching
+pub mod Joining

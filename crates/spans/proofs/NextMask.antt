@@ -6,8 +6,8 @@ use Prim.Native.Nat.{ℕ, zero, suc, _+_, _-_, _*_, _/_, _%_, _^_, _≤_, _<_, m
 use native.Mathlib.Nat.{pow-suc}
 use native.Mathlib.Omega.{arith}
 use lib.Arith.{lt-one}
-use lib.Bits.{bitAnd, and-step, and-lt, and-zero-r}
-use Rattle.panel.proofs.Masks.{apart, on-apart, not-on, bit-and, bit-on, on-bit, bit}
+use lib.Bits.{bitAnd, and-step, and-lt, and-zero-r, and-self}
+use Rattle.panel.proofs.Masks.{within, apart, and-assoc, eq-within, within-on, on-apart, not-on}
 
 -- the next mask above m that is apart from p
 pub nextOff : ℕ → ℕ → ℕ → ℕ
@@ -112,15 +112,13 @@ pub nextOff-lt : (n m p : ℕ) → m + p + 1 < 2 ^ n → nextOff n m p < 2 ^ n
 unfolding nextOff
 nextOff-lt n m p l = and-lt n (m + p + 1) (2 ^ n - 1 - p) l (omega (arith, l))
 
-bit-lt2 : (v x : ℕ) → bit v x ≤ 1
-unfolding bit
-bit-lt2 v x = omega arith
-
-pub nextOff-apart : (n m p : ℕ) → p < 2 ^ n → m + p + 1 < 2 ^ n → apart p (nextOff n m p) ≡ true
+pub nextOff-apart : (n m p : ℕ) → p < 2 ^ n → apart p (nextOff n m p) ≡ true
 unfolding nextOff
-nextOff-apart n m p lp l =
+nextOff-apart n m p lp =
+    let rest : within (bitAnd (m + p + 1) (2 ^ n - 1 - p)) (2 ^ n - 1 - p) ≡ true =
+    eq-within (bitAnd (m + p + 1) (2 ^ n - 1 - p)) (2 ^ n - 1 - p) (and-assoc (m + p + 1) (2 ^ n - 1 - p) (2 ^ n - 1 - p) ∙ ap (bitAnd (m + p + 1)) (and-self (2 ^ n - 1 - p))) in
     on-apart n p (bitAnd (m + p + 1) (2 ^ n - 1 - p)) lp
-    (λ v k a b. not-on n p v lp k a (bit-on v (2 ^ n - 1 - p) (omega (arith, on-bit v (bitAnd (m + p + 1) (2 ^ n - 1 - p)) b, bit-and v (m + p + 1) (2 ^ n - 1 - p), bit-lt2 v (2 ^ n - 1 - p)))))
+    (λ v k a b. not-on n p v lp k a (within-on (bitAnd (m + p + 1) (2 ^ n - 1 - p)) (2 ^ n - 1 - p) v rest b))
 
 -- two masks of the panel that share no bit have a sum below 2^n
 pub sum-lt : (n m p : ℕ) → m < 2 ^ n → p < 2 ^ n → bitAnd m p ≡ 0 → m + p < 2 ^ n

@@ -65,7 +65,7 @@ between-split s is lo mid hi p q =
     back x (inr m) = let k = between-e mid hi s x m in (k .0, omega (arith, k .1), k .2)
 
 -- one step of a walk: from w to r, with nothing of s between them
-pub between-step : (s : List ℕ) → increasing s ≡ true → (w r : ℕ) → w < r → ((x : ℕ) → Mem x s → w < x → x < r → ⊥)
+between-step : (s : List ℕ) → increasing s ≡ true → (w r : ℕ) → w < r → ((x : ℕ) → Mem x s → w < x → x < r → ⊥)
     → between w r s ≡ consIf (has w s) w []
 between-step s is w r l f =
     between-unique w r s (consIf (has w s) w []) is (single-increasing (has w s) w)

@@ -5,29 +5,22 @@ use Prim.Native.Nat.{ℕ, _+_, _-_, _*_, _/_, _%_, _^_, _≤_, _<_}
 use native.Mathlib.Omega.{arith}
 use lib.Bits.{bitAnd, and-zero-r, and-le-r}
 use lib.Pow.{pow-pos}
-use Rattle.panel.specs.Rules.{head, mustOn, mustOff}
+use Rattle.panel.specs.Rules.{ruleWord, head, mustOn, mustOff}
 use Rattle.panel.proofs.Masks.{apart-eq, eq-apart, apart-comm, apart}
-use Rattle.panel.proofs.Words.{Rule, mask-small}
+use Rattle.panel.proofs.Words.{Rule, ruleWord-is, word-fields, head-word, mustOn-word, mustOff-word, mustOn-small, mustOff-small, mask-small}
 use Rattle.spans.specs.Steps.{Spot, Next}
 use Rattle.spans.proofs.NextMask.{nextOff, nextOff-is, follows, nextOff-lt, nextOff-apart, sum-lt}
 
--- ---- where a walk goes next
+pub rule-of-spot : (n w : ℕ) → Spot n w → head w < n → Rule n w
+rule-of-spot n w s h = record { head-lt = h; mustOn-lt = s .mustOn-lt; mustOff-lt = s .mustOff-lt; disjoint = s .disjoint }
 
-pub spot-rule : (n w : ℕ) → Spot n w → head w < n → Rule n w
-spot-rule n w s h = record { head-lt = h; mustOn-lt = s .mustOn-lt; mustOff-lt = s .mustOff-lt; disjoint = s .disjoint }
-
-record Parts (x : ℕ) : Type 0 where
-  pub is : x ≡ head x * 1048576 + mustOn x * 1024 + mustOff x
-  pub p-small : mustOn x < 1024
-  pub m-small : mustOff x < 1024
-
-parts : (x : ℕ) → Parts x
-unfolding head mustOn mustOff
-parts x = record { is = omega arith; p-small = omega arith; m-small = omega arith }
+split : (x : ℕ) → x ≡ head x * 1048576 + mustOn x * 1024 + mustOff x
+split x = sym (word-fields x) ∙ ruleWord-is (head x) (mustOn x) (mustOff x)
 
 fields : (h p m x : ℕ) → p < 1024 → m < 1024 → x ≡ h * 1048576 + p * 1024 + m → (head x ≡ h) × (mustOn x ≡ p) × (mustOff x ≡ m)
-unfolding head mustOn mustOff
-fields h p m x a b e = (omega arith, omega arith, omega arith)
+fields h p m x a b e =
+    let is : x ≡ ruleWord h p m = e ∙ sym (ruleWord-is h p m) in
+    (ap head is ∙ head-word h p m a b, ap mustOn is ∙ mustOn-word h p m a b, ap mustOff is ∙ mustOff-word h p m a b)
 
 -- words with one on-mask: those from w on up to the next block of 1,024
 block : (x w m : ℕ) → m ≡ mustOff w → w < x → x < w - m + 1024 → (head x ≡ head w) × (mustOn x ≡ mustOn w) × (mustOff w < mustOff x)
@@ -53,15 +46,12 @@ module _ (n w : ℕ) (small : n ≤ 10) (sp : Spot n w) (size : ℕ) (es : size 
   -- the sums and differences fit
   pub step-room : head w < 10 → (m ≤ w) × (p + 1 ≤ size) × (size ≤ 1024) × (w + 2048 < 16777216) × (bitAnd (m + p + 1) (size - 1 - p) ≤ 1024)
   step-room l =
-      let a = parts w in
-      (omega (arith, a .is), omega (arith, sp .mustOn-lt, es), size-le, omega (arith, a .is, a .p-small, a .m-small), omega (arith, size-le, and-le-r (m + p + 1) (size - 1 - p)))
-
-  off : ℕ
-  off = nextOff n m p
+      let a = split w in
+      (omega (arith, a), omega (arith, sp .mustOn-lt, es), size-le, omega (arith, a, mustOn-small w, mustOff-small w), omega (arith, size-le, and-le-r (m + p + 1) (size - 1 - p)))
 
   pub step-off : m + p + 1 < size → Next n w (w - m + bitAnd (m + p + 1) (size - 1 - p))
   step-off l =
-      let a = parts w in
+      let a = split w in
       let d : bitAnd m p ≡ 0 = ap₂ bitAnd em ep ∙ apart-eq (mustOff w) (mustOn w) (apart-comm (mustOn w) (mustOff w) (sp .disjoint)) in
       let lm : m < 2 ^ n = omega (arith, sp .mustOff-lt) in
       let lp : p < 2 ^ n = omega (arith, sp .mustOn-lt) in
@@ -69,20 +59,20 @@ module _ (n w : ℕ) (small : n ≤ 10) (sp : Spot n w) (size : ℕ) (es : size 
       let t = nextOff-lt n m p (omega (arith, es)) in
       let e : w - m + bitAnd (m + p + 1) (size - 1 - p) ≡ w - m + nextOff n m p =
       ap (λ (x : ℕ). w - m + bitAnd (m + p + 1) (x - 1 - p)) es ∙ ap (λ (x : ℕ). w - m + x) (nextOff-is n m p) in
-      let g = fields (head w) (mustOn w) (nextOff n m p) (w - m + nextOff n m p) (a .p-small) (omega (arith, t, es, size-le)) (omega (arith, a .is, em)) in
+      let g = fields (head w) (mustOn w) (nextOff n m p) (w - m + nextOff n m p) (mustOn-small w) (omega (arith, t, es, size-le)) (omega (arith, a, em)) in
       subst (λ (x : ℕ). Next n w x) (sym e) (record {
-        above = omega (arith, f .above, a .is, em);
+        above = omega (arith, f .above, a, em);
         spot = record {
           mustOn-lt = rw (g .1) (sp .mustOn-lt);
           mustOff-lt = rw (g .2) t;
-          disjoint = ap₂ apart (g .1 ∙ sym ep) (g .2) ∙ nextOff-apart n m p lp (omega (arith, es));
+          disjoint = ap₂ apart (g .1 ∙ sym ep) (g .2) ∙ nextOff-apart n m p lp;
         };
-        inside = omega (arith, a .is, em, a .p-small, t, es, size-le);
+        inside = omega (arith, a, em, mustOn-small w, t, es, size-le);
         none = λ x r b c.
-            let y = parts x in
+            let y = split x in
             let z = block x w m em b (omega (arith, c, t, es, size-le)) in
             let k : bitAnd (mustOff x) p ≡ 0 = ap (bitAnd (mustOff x)) (ep ∙ sym (z .1)) ∙ apart-eq (mustOff x) (mustOn x) (apart-comm (mustOn x) (mustOff x) (r .disjoint)) in
-            omega (arith, z .0, z .1, a .is, y .is, c, em, f .first (mustOff x) (r .mustOff-lt) k (omega (arith, z .2, em)));
+            omega (arith, z .0, z .1, a, y, c, em, f .first (mustOff x) (r .mustOff-lt) k (omega (arith, z .2, em)));
       })
 
   -- no off-mask is left: p and m fill the panel
@@ -93,16 +83,16 @@ module _ (n w : ℕ) (small : n ≤ 10) (sp : Spot n w) (size : ℕ) (es : size 
 
   pub step-on : size ≤ m + p + 1 → p + 1 < size → Next n w (w - m + 1024)
   step-on l k =
-      let a = parts w in
-      let g = fields (head w) (mustOn w + 1) 0 (w - m + 1024) (omega (arith, size-le)) (omega arith) (omega (arith, a .is)) in
+      let a = split w in
+      let g = fields (head w) (mustOn w + 1) 0 (w - m + 1024) (omega (arith, size-le)) (omega arith) (omega (arith, a)) in
       record {
-        above = omega (arith, a .is, a .m-small, em);
+        above = omega (arith, a, mustOff-small w, em);
         spot = record {
           mustOn-lt = rw (g .1) (omega arith);
           mustOff-lt = rw (g .2) (omega arith);
           disjoint = ap (apart (mustOn (w - m + 1024))) (g .2) ∙ apart-zero (mustOn (w - m + 1024));
         };
-        inside = omega (arith, a .is, a .p-small, a .m-small, size-le);
+        inside = omega (arith, a, mustOn-small w, mustOff-small w, size-le);
         none = λ x r b d.
             let k = block x w m em b d in
             full-above l x r (k .0) (k .1) (k .2);
@@ -110,10 +100,10 @@ module _ (n w : ℕ) (small : n ≤ 10) (sp : Spot n w) (size : ℕ) (es : size 
 
   pub step-head : size ≤ m + p + 1 → size ≤ p + 1 → (h : ℕ) → h ≡ head w → Next n w ((h + 1) * 1048576)
   step-head l k h eh =
-      let a = parts w in
+      let a = split w in
       let g = fields (h + 1) 0 0 ((h + 1) * 1048576) (omega arith) (omega arith) (omega arith) in
       record {
-        above = omega (arith, a .is, a .m-small, a .p-small);
+        above = omega (arith, a, mustOff-small w, mustOn-small w);
         spot = record {
           mustOn-lt = rw (g .1) (omega (arith, sp .mustOn-lt));
           mustOff-lt = rw (g .2) (omega (arith, sp .mustOn-lt));
@@ -121,10 +111,10 @@ module _ (n w : ℕ) (small : n ≤ 10) (sp : Spot n w) (size : ℕ) (es : size 
         };
         inside = omega arith;
         none = λ x r b d.
-            let y = parts x in
-            let hh : head x ≡ head w = omega (arith, a .is, a .p-small, a .m-small, y .is, y .p-small, y .m-small, b, d, eh) in
-            let hp : mustOn x ≡ mustOn w = omega (arith, hh, a .is, a .p-small, a .m-small, y .is, y .p-small, y .m-small, b, d, r .mustOn-lt) in
-            full-above l x r hh hp (omega (arith, hp, hh, a .is, y .is, b));
+            let y = split x in
+            let hh : head x ≡ head w = omega (arith, a, mustOn-small w, mustOff-small w, y, mustOn-small x, mustOff-small x, b, d, eh) in
+            let hp : mustOn x ≡ mustOn w = omega (arith, hh, a, mustOn-small w, mustOff-small w, y, mustOn-small x, mustOff-small x, b, d, r .mustOn-lt) in
+            full-above l x r hh hp (omega (arith, hp, hh, a, y, b));
       }
 
 -- the first word of a head
@@ -133,4 +123,8 @@ unfolding mustOn mustOff
 spot-start n h =
     let p : mustOn (h * 1048576) ≡ 0 = omega arith in
     let m : mustOff (h * 1048576) ≡ 0 = omega arith in
-    record { mustOn-lt = omega (arith, p, pow-pos n); mustOff-lt = omega (arith, m, pow-pos n); disjoint = ap (apart (mustOn (h * 1048576))) m ∙ eq-apart (mustOn (h * 1048576)) 0 (and-zero-r (mustOn (h * 1048576))) }
+    record {
+      mustOn-lt = omega (arith, p, pow-pos n);
+      mustOff-lt = omega (arith, m, pow-pos n);
+      disjoint = ap (apart (mustOn (h * 1048576))) m ∙ apart-zero (mustOn (h * 1048576));
+    }

@@ -1,4 +1,4 @@
--- Inside one head a rule permits a word when all bits of the one are on in the other.
+-- The quick test inside one head: a rule permits a word when all its bits are on there.
 use mathlib.Core.Path.{_≡_, ap, ap₂, _∙_}
 use mathlib.Core.Bool.{Bool, true, false}
 use mathlib.Core.List.{List, List·Memᴰ as Mem}
@@ -35,18 +35,19 @@ shared r w =
     ∙ and-block 20 (head r) (head w) (body r) (body w) (body-small r) (body-small w)
     ∙ ap (λ (x : ℕ). bitAnd (head r) (head w) * 1048576 + x) (and-block 10 (mustOn r) (mustOn w) (mustOff r) (mustOff w) (mustOff-small r) (mustOff-small w))
 
-pub narrows-inside : (w r : ℕ) → narrows w r ≡ true → within r w ≡ true
+-- so a rule narrows another of its head when all bits of the one are on in the other
+within-of-narrows : (w r : ℕ) → narrows w r ≡ true → within r w ≡ true
 unfolding body
-narrows-inside w r p =
+within-of-narrows w r p =
     let x = narrows-e w r p in
     let h : bitAnd (head r) (head w) ≡ head r = ap (bitAnd (head r)) (x .one-head) ∙ and-self (head r) in
     let a = within-eq (mustOn r) (mustOn w) (x .mustOn-in) in
     let b = within-eq (mustOff r) (mustOff w) (x .mustOff-in) in
     eq-within r w (shared r w ∙ omega (arith, h, a, b, fields r))
 
-pub inside-narrows : (w r : ℕ) → head w ≡ head r → within r w ≡ true → narrows w r ≡ true
+narrows-of-within : (w r : ℕ) → head w ≡ head r → within r w ≡ true → narrows w r ≡ true
 unfolding body
-inside-narrows w r e p =
+narrows-of-within w r e p =
     let h : bitAnd (head r) (head w) ≡ head r = ap (bitAnd (head r)) e ∙ and-self (head r) in
     let s = shared r w in
     let q = within-eq r w p in
@@ -64,14 +65,14 @@ pub touches-permits : (s : List ℕ) (w : ℕ) → ((r : ℕ) → Mem r s → he
 unfolding touches permits
 touches-permits s w f =
     same-test (any (λ r. within r w) s) (any (narrows w) s)
-    (λ e. let k = any-e (λ r. within r w) s e in any-i (narrows w) (k .1) (inside-narrows w (k .0) (f (k .0) (k .1)) (k .2)))
-    (λ e. let k = any-e (narrows w) s e in any-i (λ r. within r w) (k .1) (narrows-inside w (k .0) (k .2)))
+    (λ e. let k = any-e (λ r. within r w) s e in any-i (narrows w) (k .1) (narrows-of-within w (k .0) (f (k .0) (k .1)) (k .2)))
+    (λ e. let k = any-e (narrows w) s e in any-i (λ r. within r w) (k .1) (within-of-narrows w (k .0) (k .2)))
 
 touches-up : (n : ℕ) (s : List ℕ) → Upward n (touches s)
 unfolding touches
 touches-up n s w r rw′ rr p e =
     let k = any-e (λ x. within x r) s e in
-    any-i (λ x. within x w) (k .1) (within-trans (k .0) r w (k .2) (narrows-inside w r p))
+    any-i (λ x. within x w) (k .1) (within-trans (k .0) r w (k .2) (within-of-narrows w r p))
 
 pub both-touch-up : (n : ℕ) (s t : List ℕ) → Upward n (bothTouch s t)
 unfolding bothTouch

@@ -52,7 +52,7 @@ module _ (n : ℕ) (small : n ≤ 10) (q : ℕ → Bool) (lo : ℕ) where
       between-more (sheetWhere n q) (sheet-increasing n small q) lo w r l (x .above)
       (λ y m a b. x .none y (member-e n small q y m .0) a b)
 
-  pub counted-more : (w k r x : ℕ) (b : Bool) → Counted (sheetWhere n q) lo w k → Next n w r → b ≡ has w (sheetWhere n q) → x ≡ oneIf b
+  counted-more : (w k r x : ℕ) (b : Bool) → Counted (sheetWhere n q) lo w k → Next n w r → b ≡ has w (sheetWhere n q) → x ≡ oneIf b
       → Counted (sheetWhere n q) lo r (k + x)
   counted-more w k r x b c nx eb ex =
       let l : lo ≤ w = omega (arith, c .few) in
@@ -64,7 +64,7 @@ module _ (n : ℕ) (small : n ≤ 10) (q : ℕ → Bool) (lo : ℕ) where
         few = omega (arith, nx .above, c .few, ex, one-le b);
       }
 
-  pub counted-done : (w k hi : ℕ) → Counted (sheetWhere n q) lo w k → w ≤ hi → hi ≤ w → (k ≡ length (between lo hi (sheetWhere n q))) × (k + lo ≤ hi)
+  counted-done : (w k hi : ℕ) → Counted (sheetWhere n q) lo w k → w ≤ hi → hi ≤ w → (k ≡ length (between lo hi (sheetWhere n q))) × (k + lo ≤ hi)
   counted-done w k hi c a b =
       let e : w ≡ hi = omega arith in
       (subst (λ (x : ℕ). k ≡ length (between lo x (sheetWhere n q))) e (c .is), omega (arith, c .few))
@@ -107,10 +107,10 @@ module _ (n : ℕ) (small : n ≤ 10) (q : ℕ → Bool) (lo : ℕ) where
     next-fits = omega (arith, next-length, part-le r hi (omega (arith, c .from, nx .above)) k, room)
 
     -- there is room for w if it is kept
-    pub written-room : b ≡ true → at < length cur
+    written-room : b ≡ true → at < length cur
     written-room e = omega (arith, next-fits, ap oneIf e, c .same)
 
-    pub written-more : (new : List ℕ) (to : ℕ) → new ≡ putIf b at w cur → to ≡ at + oneIf b → Written (sheetWhere n q) lo r old new to
+    written-more : (new : List ℕ) (to : ℕ) → new ≡ putIf b at w cur → to ≡ at + oneIf b → Written (sheetWhere n q) lo r old new to
     written-more new to en et =
         let e : new ≡ over (between lo r (sheetWhere n q)) old =
         en ∙ ap₂ (λ (i : ℕ) (t : List ℕ). putIf b i w t) (c .place) (c .is)
@@ -124,24 +124,26 @@ module _ (n : ℕ) (small : n ≤ 10) (q : ℕ → Bool) (lo : ℕ) where
           fits = omega (arith, et, next-fits);
         }
 
-  pub written-done : (w hi : ℕ) (old cur : List ℕ) (at : ℕ) → Written (sheetWhere n q) lo w old cur at → w ≤ hi → hi ≤ w
+  written-done : (w hi : ℕ) (old cur : List ℕ) (at : ℕ) → Written (sheetWhere n q) lo w old cur at → w ≤ hi → hi ≤ w
       → Written (sheetWhere n q) lo hi old cur at
   written-done w hi old cur at c a b =
       let e : w ≡ hi = omega arith in
       subst (λ (x : ℕ). Written (sheetWhere n q) lo x old cur at) e c
+
+-- ---- where a walk through the head h stands
 
 module _ (n h w end : ℕ) (small : n ≤ 10) (hn : h < n) (lo : h * 1048576 ≤ w) (e : end ≡ (h + 1) * 1048576) (l : w < end) where
   is-head : head w ≡ h
   unfolding head
   is-head = omega arith
 
-  pub walk-in : head w < n
+  walk-in : head w < n
   walk-in = omega (arith, is-head)
 
-  pub walk-few : head w < 10
+  walk-few : head w < 10
   walk-few = omega (arith, is-head)
 
-  pub walk-to : (r : ℕ) → Next n w r → r ≤ end
+  walk-to : (r : ℕ) → Next n w r → r ≤ end
   walk-to r x = omega (arith, is-head, x .inside)
 
 -- ---- one head, counted
@@ -180,6 +182,7 @@ module _ (n : ℕ) (small : n ≤ 10) (q : ℕ → Bool) (h : ℕ) where
 
 -- ---- one head, written
 
+-- the walk through the head h has come to w and written what it met over the front of old
 pub record Writing (n : ℕ) (q : ℕ → Bool) (h end w : ℕ) (old cur : List ℕ) (at : ℕ) : Type 0 where
   pub ends : end ≡ (h + 1) * 1048576
   pub here : Spot n w

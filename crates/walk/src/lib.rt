@@ -185,8 +185,8 @@ pub fn count_join(n: u32, a: &[u32], b: &[u32]) -> usize
     requires { ⌜ (n ≤ 10) × (goodSheet n (now a) ≡ true) × (goodSheet n (now b) ≡ true) ⌝ }
     ensures { λ r. ⌜ r ≡ length (joinSheet n (now (a .entry)) (now (b .entry))) ⌝ }
 {
-    let mut h: u32 = 0;
-    let mut k: usize = 0;
+    let mut h = 0;
+    let mut k = 0;
     while h < n {
         k += count_head(n, h, stretch(a, h), stretch(b, h));
         h += 1;

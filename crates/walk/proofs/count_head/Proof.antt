@@ -4,7 +4,7 @@ use Prim.Native.Nat.{_-_}
 use native.Mathlib.Omega.{arith}
 use Rattle.spans.specs.Touching.{bothTouch}
 use Rattle.spans.proofs.Walking.{Counting, counting-start, counting-in, counting-few, counting-more, counting-done}
-use Rattle.spans.proofs.Heads.{left-none, right-none}
+use Rattle.spans.proofs.Joining.{head-none-left, head-none-right}
 use borrow.Author.Needs.{needs}
 use Rattle.walk.proofs.count_head.Statement.{statement}
 use Rattle.walk.proofs.count_head.Tie as tie
@@ -17,11 +17,11 @@ abbrev μ-loop : tie.MeasureT-loop
 
 returns : tie.Need-returns Inv-loop μ-loop
 returns c = let s = c .before .before .before in
-    (left-none _ (s .pre .0) _ _ _ (c .if1 .taken), omega arith)
+    (head-none-left _ (s .pre .0) _ _ _ (c .if1 .taken), omega arith)
 
 returns-2 : tie.Need-returns-2 Inv-loop μ-loop
 returns-2 c = let s = c .before .before .before .before in
-    (right-none _ (s .pre .0) _ _ _ (c .if2 .taken), omega arith)
+    (head-none-right _ (s .pre .0) _ _ _ (c .if2 .taken), omega arith)
 
 add-end : tie.Need-add-end Inv-loop μ-loop
 add-end c = omega arith

@@ -7,7 +7,8 @@ use Rattle.prime.specs.Sheets.{sheetWhere}
 use Rattle.prime.proofs.Least.{good-e}
 use Rattle.spans.specs.Touching.{bothPermit}
 use Rattle.spans.proofs.Walking.{Counted, counted-start}
-use Rattle.spans.proofs.Heads.{heads-more, heads-done, join-both, both-head}
+use Rattle.spans.proofs.Heads.{heads-more, heads-done}
+use Rattle.spans.proofs.Joining.{join-permit, join-head}
 use borrow.Author.Needs.{needs}
 use Rattle.walk.proofs.count_join.Statement.{statement}
 use Rattle.walk.proofs.count_join.Tie as tie
@@ -40,10 +41,10 @@ loop-less : tie.Need-loop-less Inv-loop μ-loop
 loop-less c = search needs
 
 loop-again : tie.Need-loop-again Inv-loop μ-loop
-loop-again c = (omega arith, heads-more _ (c .before .before .before .before .before .before .before .pre .0) _ _ _ _ _ (both-head _ (c .before .before .before .before .before .before .before .pre .0) _ _ _ _ _ (c .before .before .stretch .ensures) (c .before .stretch2 .ensures)) (c .before .before .before .before .loop .inv .1) (c .count-head .ensures .0) (c .count-head .ensures .1))
+loop-again c = (omega arith, heads-more _ (c .before .before .before .before .before .before .before .pre .0) _ _ _ _ _ (join-head _ (c .before .before .before .before .before .before .before .pre .0) _ _ _ _ _ (c .before .before .stretch .ensures) (c .before .stretch2 .ensures)) (c .before .before .before .before .loop .inv .1) (c .count-head .ensures .0) (c .count-head .ensures .1))
 
 returns : tie.Need-returns Inv-loop μ-loop
-returns c = heads-done _ (c .before .before .before .before .pre .0) _ _ _ (c .before .loop .inv .1) (c .before .loop .inv .0) (omega arith) ∙ ap length (join-both _ _ _)
+returns c = heads-done _ (c .before .before .before .before .pre .0) _ _ _ (c .before .loop .inv .1) (c .before .loop .inv .0) (omega arith) ∙ ap length (join-permit _ _ _)
 
 pub count-join-spec : {M : Type 1} → statement M
 count-join-spec =

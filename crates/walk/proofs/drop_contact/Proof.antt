@@ -1,7 +1,4 @@
 -- `walk::drop_contact` meets its contract.
-use mathlib.Core.Path.{_≡_, sym, ap, _∙_}
-use Prim.Native.Nat.{ℕ, _*_, _-_}
-use native.Mathlib.Omega.{arith}
 use Rattle.spans.proofs.Fewer.{drop-room-on, drop-room-off, drop-on, drop-off, drop-none}
 use borrow.Author.Needs.{needs}
 use Rattle.walk.proofs.drop_contact.Statement.{statement}

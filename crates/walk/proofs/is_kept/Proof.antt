@@ -6,7 +6,7 @@ use native.Mathlib.Omega.{arith}
 use Rattle.spans.specs.Touching.{bothTouch}
 use Rattle.spans.specs.Fewer.{fewer}
 use Rattle.spans.proofs.Fewer.{least-not, least-hit, least-done, fewer-start, fewer-more}
-use Rattle.spans.proofs.Steps.{spot-rule}
+use Rattle.spans.proofs.Steps.{rule-of-spot}
 use Rattle.spans.proofs.Walking.{has-least}
 use Rattle.spans.proofs.Touching.{both-touch-up}
 use borrow.Author.Needs.{needs}
@@ -25,7 +25,7 @@ both-touch-requires c κs = search needs
 
 returns : tie.Need-returns Inv-loop μ-loop
 returns c = let s = c .before .before .before .before in
-    let rr = spot-rule _ _ (s .pre .1) (s .pre .2) in
+    let rr = rule-of-spot _ _ (s .pre .1) (s .pre .2) in
     has-least _ (s .pre .0) _ _ rr _ (least-not _ (s .pre .0) _ (both-touch-up _ _ _) _ rr _ (c .before .both-touch .ensures) (not-true _ (c .if1 .taken)))
 
 loop-holds : tie.Need-loop-holds Inv-loop μ-loop
@@ -40,7 +40,7 @@ is-smaller-requires c κs = search needs
 returns-2 : tie.Need-returns-2 Inv-loop μ-loop
 returns-2 c = let i = c .before .before .before in
     let s = i .before .before .before .before .before .before in
-    let rr = spot-rule _ _ (s .pre .1) (s .pre .2) in
+    let rr = rule-of-spot _ _ (s .pre .1) (s .pre .2) in
     has-least _ (s .pre .0) _ _ rr _ (least-hit _ (s .pre .0) _ (both-touch-up _ _ _) _ rr _ (i .loop-test .taken) _ (c .before .before .drop-contact .ensures) _ (c .before .is-smaller .ensures) (c .if2 .taken))
 
 add-v : tie.Need-add-v Inv-loop μ-loop
@@ -57,7 +57,7 @@ returns-3 : tie.Need-returns-3 Inv-loop μ-loop
 returns-3 c = let l = c .before in
     let b = l .before .before in
     let s = b .before .before .before in
-    let rr = spot-rule _ _ (s .pre .1) (s .pre .2) in
+    let rr = rule-of-spot _ _ (s .pre .1) (s .pre .2) in
     has-least _ (s .pre .0) _ _ rr _ (least-done _ (s .pre .0) _ (both-touch-up _ _ _) _ rr _ (b .both-touch .ensures) (not-false _ (l .before .if1 .left)) _ (l .loop .inv .0) (omega arith) (l .loop .inv .1))
 
 pub is-kept-spec : {M : Type 1} → statement M

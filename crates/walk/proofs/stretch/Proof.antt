@@ -1,6 +1,6 @@
 -- `walk::stretch` meets its contract.
 use denote.Ref.{now}
-use Rattle.spans.proofs.Heads.{head-stretch, stretch-order}
+use Rattle.spans.proofs.Stretches.{head-stretch, stretch-order}
 use borrow.Author.Needs.{needs}
 use Rattle.walk.proofs.stretch.Statement.{statement}
 use Rattle.walk.proofs.stretch.Tie as tie

@@ -5,8 +5,7 @@ use native.Mathlib.Omega.{arith}
 use Rattle.spans.specs.Touching.{bothTouch}
 use Rattle.spans.proofs.Overwriting.{nothing-over}
 use Rattle.spans.proofs.Walking.{Writing, writing-start, writing-in, writing-few, writing-room, writing-more, writing-done}
-use Rattle.spans.proofs.Heads.{left-none, right-none}
-use borrow.Author.Needs.{needs}
+use Rattle.spans.proofs.Joining.{head-none-left, head-none-right}
 use Rattle.walk.proofs.write_head.Statement.{statement}
 use Rattle.walk.proofs.write_head.Tie as tie
 
@@ -18,11 +17,11 @@ abbrev μ-loop : tie.MeasureT-loop
 
 returns : tie.Need-returns Inv-loop μ-loop
 returns c = let s = c .before .before .before .before in
-    nothing-over _ _ (left-none _ (s .pre .0) _ _ _ (c .if1 .taken))
+    nothing-over _ _ (head-none-left _ (s .pre .0) _ _ _ (c .if1 .taken))
 
 returns-2 : tie.Need-returns-2 Inv-loop μ-loop
 returns-2 c = let s = c .before .before .before .before .before in
-    nothing-over _ _ (right-none _ (s .pre .0) _ _ _ (c .if2 .taken))
+    nothing-over _ _ (head-none-right _ (s .pre .0) _ _ _ (c .if2 .taken))
 
 add-end : tie.Need-add-end Inv-loop μ-loop
 add-end c = omega arith
