@@ -24,16 +24,19 @@ mul-result : tie.Need-mul-result
 mul-result c = search needs
 
 sub-result : tie.Need-sub-result
-sub-result c = stretch-order (c .before .before .before .args .h) (now (c .before .before .before .args .s)) _ _ (c .before .place .ensures .0) (c .place2 .ensures .0)
+sub-result c = let s = c .before .before .before in
+    stretch-order (s .args .h) (now (s .args .s)) _ _ (c .before .place .ensures .0) (c .place2 .ensures .0)
 
 part-result-start : tie.Need-part-result-start
-part-result-start c = stretch-order (c .before .before .before .args .h) (now (c .before .before .before .args .s)) _ _ (c .before .place .ensures .0) (c .place2 .ensures .0)
+part-result-start c = let s = c .before .before .before in
+    stretch-order (s .args .h) (now (s .args .s)) _ _ (c .before .place .ensures .0) (c .place2 .ensures .0)
 
 part-result-end : tie.Need-part-result-end
 part-result-end c = search needs
 
 returns : tie.Need-returns
-returns c = head-stretch (c .before .before .before .before .args .h) (now (c .before .before .before .before .args .s)) (c .before .before .before .before .pre .1) _ _ (c .before .before .place .ensures .0) (c .before .place2 .ensures .0)
+returns c = let s = c .before .before .before .before in
+    head-stretch (s .args .h) (now (s .args .s)) (s .pre .1) _ _ (c .before .before .place .ensures .0) (c .before .place2 .ensures .0)
 
 pub stretch-spec : {M : Type 1} → statement M
 stretch-spec =
