@@ -46,7 +46,7 @@ add-result-3 c = let a = c .before in
 returns : tie.Need-returns
 returns c = let a = c .before in
     let s = a .before .before .before in
-    step-off _ _ (s .pre .0) (s .pre .1) _ (a .before .before .power .ensures .0) _ (a .before .must-off .ensures) _ (a .must-on .ensures) (c .if1 .taken)
+    step-off _ _ (s .pre .0) (s .pre .1) _ (a .before .before .power .ensures .0) _ (a .before .must-off .ensures) _ (a .must-on .ensures) (omega arith)
 
 add-if2 : tie.Need-add-if2
 add-if2 c = search needs

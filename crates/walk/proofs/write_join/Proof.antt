@@ -34,7 +34,7 @@ write-head-at-requires : tie.Need-write-head-at-requires Inv-loop μ-loop
 write-head-at-requires c κs = let t = c .before .before .before in
     let s = t .before .before .before .before .before in
     let found = join-head _ (s .pre .0) _ _ _ _ _ (c .before .before .stretch .ensures) (c .before .stretch2 .ensures) in
-    (s .pre .0, t .loop-test .taken, heads-room _ (s .pre .0) _ _ (t .loop-test .taken) _ _ _ (t .before .loop .inv .1) (join-room _ _ _ _ (s .pre .3)) _ found)
+    (s .pre .0, t .loop-test .taken, omega (arith, heads-room _ (s .pre .0) _ _ (t .loop-test .taken) _ _ _ (t .before .loop .inv .1) (join-room _ _ _ _ (s .pre .3)) _ found))
 
 add-at : tie.Need-add-at Inv-loop μ-loop
 add-at c = let w = c .before .before in
