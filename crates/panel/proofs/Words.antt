@@ -177,7 +177,7 @@ pub single-i : {x y : ℕ} (b : Bool) → x ≡ y → b ≡ true → Mem x (cons
 single-i true e p = here e
 single-i false e p = absurd (false≢true p)
 
-single-increasing : (b : Bool) (y : ℕ) → increasing (consIf b y []) ≡ true
+pub single-increasing : (b : Bool) (y : ℕ) → increasing (consIf b y []) ≡ true
 single-increasing true y = refl
 single-increasing false y = refl
 

@@ -1,0 +1,28 @@
+-- Answers: a code, a place, both counts, struck and added; and the order in which refusals are asked.
+use Prim.Native.Nat.{ℕ, zero, suc}
+use mathlib.Core.Bool.{Bool, true, false}
+use mathlib.Core.List.{List}
+use Rattle.answers.specs.declared.Answer.{Answer}
+
+-- refuse with the code where the test passes, else go on
+abbrev pub refuse : Bool → ℕ → ℕ → ℕ
+refuse true code later = code
+refuse false code later = later
+
+-- an answer with a code, a place and both counts; struck and added are 0
+abbrev pub plain : ℕ → ℕ → ℕ → ℕ → Answer
+plain code place books sheets = record { code = code; place = place; «book_count» = books; «sheet_count» = sheets; struck = 0; added = 0 }
+
+-- done: code 0 and place 0, with the new counts, struck and added
+abbrev pub done : ℕ → ℕ → ℕ → ℕ → Answer
+done books sheets struck added = record { code = 0; place = 0; «book_count» = books; «sheet_count» = sheets; struck = struck; added = added }
+
+-- the first answer where the code is 0, else the second
+abbrev pub answerIf : ℕ → Answer → Answer → Answer
+answerIf zero a b = a
+answerIf (suc c) a b = b
+
+-- the first words where the code is 0, else the second
+abbrev pub wordsIf : ℕ → List ℕ → List ℕ → List ℕ
+wordsIf zero xs ys = xs
+wordsIf (suc c) xs ys = ys

@@ -1,0 +1,4 @@
+pub mod Parts
+pub mod Fewer
+pub mod Steps
+pub mod Touching
