@@ -2,7 +2,7 @@
 use mathlib.Core.Path.{_≡_, refl, ap, ap₂}
 use mathlib.Core.Bool.{Bool, true, false, not}
 use mathlib.Core.List.{List, [], _∷_, List·Memᴰ as Mem, List·Memᴰ·head as here, List·Memᴰ·tail as there, Memᴰ·cast}
-use Prim.Native.Nat.{ℕ, suc, _+_}
+use Prim.Native.Nat.{ℕ, suc, _+_, _≤_}
 use native.Mathlib.Omega.{arith}
 use lib.ListN.{length}
 use lib.Dec.{eqb}
@@ -48,3 +48,7 @@ balance old new p q =
 pub filter-ext : (f g : ℕ → Bool) (s : List ℕ) → ((x : ℕ) → Mem x s → f x ≡ g x) → filter f s ≡ filter g s
 filter-ext f g [] h = refl
 filter-ext f g (x ∷ xs) h = ap₂ (λ (b : Bool) (l : List ℕ). consIf b x l) (h x (here refl)) (filter-ext f g xs (λ y m. h y (there m)))
+
+pub missing-le : (ys xs : List ℕ) → missing ys xs ≤ length xs
+unfolding missing
+missing-le ys xs = omega (arith, parted (λ x. not (has x ys)) xs)

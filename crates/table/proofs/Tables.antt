@@ -7,12 +7,12 @@ use Prim.Native.Nat.{ℕ, zero, suc, _+_, _-_, _≤_, _<_, suc-le-suc}
 use native.Mathlib.Nat.{le-of-suc-le-suc, not-suc-le-zero, zero-lt-suc, lt-irrefl, le-refl}
 use native.Mathlib.Numerals.{add-one}
 use native.Mathlib.Omega.{arith}
-use lib.ListN.{length, take, drop, getD, length-append, length-drop, take-append-drop}
-use lib.Seq.{take-at, take-take, length-take-le, getD-take, getD-drop, drop-at, drop-cons}
+use lib.ListN.{length, take, drop, getD, replicate, length-append, length-drop}
+use lib.Seq.{take-at, take-take, length-take-le, getD-take, getD-drop}
 use lib.Dec.{eqb, ltb}
 use borrow.Author.Tests.{eq-eqb, ne-eqb, lt-ltb, ltb-true}
 use Rattle.table.specs.Lists.{consIf, pick, increasing, insert, insertAll, remove}
-use Rattle.table.specs.Surgery.{removedAt, placeOf, oneMoreIf, Holds}
+use Rattle.table.specs.Surgery.{removedAt, placeOf, oneMoreIf, clearedFrom, filled, Holds}
 use Rattle.table.proofs.Basics.{at-in}
 use Rattle.table.proofs.Increasing.{first-below, rest-increasing}
 use Rattle.table.proofs.Inserting.{insert-length}
@@ -162,3 +162,18 @@ increasing-short s hi i h = go (short-from s 0 hi i (λ x m. (omega arith, h x m
     go : length s + 0 ≤ hi ⊎ (length s ≡ 0) → length s ≤ hi
     go (inl a) = omega (arith, a)
     go (inr e) = omega (arith, e)
+
+-- ---- a table with the words behind it cleared
+
+pub holds-filled : (z e : List ℕ) (r len : ℕ) (tab : List ℕ) → Holds z r len tab → e ≡ clearedFrom r z → e ≡ filled len tab
+unfolding clearedFrom filled
+holds-filled z e r len tab h q =
+    let k : r ≡ length tab = sym (length-take-le r z (h .fits)) ∙ ap length (h .is) in
+    let m : length z - r ≡ len - length tab = omega (arith, h .same, k) in
+    q ∙ ap₂ (λ (xs : List ℕ) (i : ℕ). xs ++ replicate i 0) (h .is) m
+
+-- a list written over the front of a slice
+pub over-holds : (xs s : List ℕ) (r : ℕ) → r ≡ length xs → r ≤ length s → Holds (xs ++ drop r s) r (length s) xs
+over-holds xs s r e l =
+    let m : length (xs ++ drop r s) ≡ length s = length-append xs (drop r s) ∙ omega (arith, length-drop r s) in
+    record { is = take-at xs (drop r s) r (sym e); fits = omega (arith, m); same = m }

@@ -1,0 +1,177 @@
+-- The ladders of refusals, one law for each way out; and what is known once nothing refused.
+use mathlib.Core.Path.{_≡_, refl, sym, ap, ap₂, _∙_, subst}
+use mathlib.Core.Bool.{Bool, true, false, not, _&&_, _||_, false≢true}
+use mathlib.Core.List.{List}
+use Prim.Native.Nat.{ℕ, zero, suc, _+_, _^_, _≤_, _<_}
+use native.Mathlib.Nat.{le-of-suc-le-suc}
+use native.Mathlib.Omega.{arith}
+use lib.Dec.{eqb, ltb}
+use lib.ListN.{length, take, getD}
+use borrow.Author.Tests.{ltb-true, ltb-false, lt-ltb, le-ltb, eqb-true, eq-eqb, ne-eqb}
+use Rattle.table.proofs.Basics.{and-l, and-r}
+use Rattle.table.specs.Lists.{has}
+use Rattle.panel.specs.Masks.{panelSize}
+use Rattle.panel.specs.Transitions.{transitionWord, state, next}
+use Rattle.panel.proofs.Transitions.{state-word, next-word}
+use Rattle.prime.specs.Books.{statesUp, goodBook, booked}
+use Rattle.prime.specs.Sheets.{goodSheet}
+use Rattle.book.specs.Finding.{findState}
+use Rattle.book.specs.declared.Found.{Found}
+use Rattle.book.specs.declared.Found.the-variants.{At, Gap}
+use Rattle.book.proofs.Finding.{stands-of-at, booked-of-at, has-of-at, new-of-gap, free-of-gap}
+use Rattle.answers.specs.Answers.{refuse}
+use Rattle.answers.proofs.Laws.{refuse-none}
+use Rattle.calls.specs.Fresh.{freshCode}
+use Rattle.calls.specs.Take.{lentCode, bookingCode}
+
+-- ---- n
+
+pub size-of : (n : ℕ) → panelSize n ≡ true → (0 < n) × (n ≤ 10)
+unfolding panelSize
+size-of n e = (ltb-true 0 n (and-l (ltb 0 n) (ltb n 11) e), le-of-suc-le-suc (ltb-true n 11 (and-r (ltb 0 n) (ltb n 11) e)))
+
+-- ---- fresh
+
+module _ (n room : ℕ) (x : Bool) (ex : x ≡ panelSize n) where
+  pub fresh-size : x ≡ false → 2 ≡ freshCode n room
+  unfolding freshCode
+  fresh-size e = sym (simp (sym ex ∙ e))
+
+  pub fresh-room : x ≡ true → room < n → 9 ≡ freshCode n room
+  unfolding freshCode
+  fresh-room e l = sym (simp (sym ex ∙ e, lt-ltb room n l))
+
+  pub fresh-ok : x ≡ true → n ≤ room → 0 ≡ freshCode n room
+  unfolding freshCode
+  fresh-ok e l = sym (simp (sym ex ∙ e, le-ltb room n l))
+
+-- ---- the refusals 2 to 6 of a take
+
+module _ (spoilt : Bool) (n : ℕ) (book : List ℕ) (books : ℕ) (sheet : List ℕ) (sheets i j : ℕ) (x : Bool) (ex : x ≡ panelSize n) where
+  pub lent-size : x ≡ false → 2 ≡ lentCode spoilt n book books sheet sheets i j
+  unfolding lentCode
+  lent-size e = sym (simp (sym ex ∙ e))
+
+  module _ (e : x ≡ true) where
+    pub lent-spoilt : spoilt ≡ true → 3 ≡ lentCode spoilt n book books sheet sheets i j
+    unfolding lentCode
+    lent-spoilt f = sym (simp (sym ex ∙ e, f))
+
+    module _ (f : spoilt ≡ false) where
+      pub lent-books : length book < books → 3 ≡ lentCode spoilt n book books sheet sheets i j
+      unfolding lentCode
+      lent-books l = sym (simp (sym ex ∙ e, f, lt-ltb (length book) books l))
+
+      module _ (lb : books ≤ length book) where
+        pub lent-sheets : length sheet < sheets → 3 ≡ lentCode spoilt n book books sheet sheets i j
+        unfolding lentCode
+        lent-sheets l = sym (simp (sym ex ∙ e, f, le-ltb (length book) books lb, lt-ltb (length sheet) sheets l))
+
+        module _ (ls : sheets ≤ length sheet) (y : Bool) (ey : y ≡ goodBook n (take books book)) where
+          pub lent-bad-book : y ≡ false → 4 ≡ lentCode spoilt n book books sheet sheets i j
+          unfolding lentCode
+          lent-bad-book g = sym (simp (sym ex ∙ e, f, le-ltb (length book) books lb, le-ltb (length sheet) sheets ls, sym ey ∙ g))
+
+          module _ (g : y ≡ true) (z : Bool) (ez : z ≡ goodSheet n (take sheets sheet)) where
+            pub lent-bad-sheet : z ≡ false → 5 ≡ lentCode spoilt n book books sheet sheets i j
+            unfolding lentCode
+            lent-bad-sheet h = sym (simp (sym ex ∙ e, f, le-ltb (length book) books lb, le-ltb (length sheet) sheets ls, sym ey ∙ g, sym ez ∙ h))
+
+            module _ (h : z ≡ true) (p : ℕ) (ep : p ≡ 2 ^ n) where
+              pub lent-state : p ≤ i → 6 ≡ lentCode spoilt n book books sheet sheets i j
+              unfolding lentCode
+              lent-state l =
+                  sym (simp (sym ex ∙ e, f, le-ltb (length book) books lb, le-ltb (length sheet) sheets ls, sym ey ∙ g, sym ez ∙ h, ap (ltb i) (sym ep) ∙ le-ltb i p l))
+
+              module _ (li : i < p) where
+                pub lent-next : p ≤ j → 6 ≡ lentCode spoilt n book books sheet sheets i j
+                unfolding lentCode
+                lent-next l =
+                    sym (simp (sym ex ∙ e, f, le-ltb (length book) books lb, le-ltb (length sheet) sheets ls, sym ey ∙ g, sym ez ∙ h, ap (ltb i) (sym ep) ∙ lt-ltb i p li, ap (ltb j) (sym ep) ∙ le-ltb j p l))
+
+                pub lent-ok : j < p → 0 ≡ lentCode spoilt n book books sheet sheets i j
+                unfolding lentCode
+                lent-ok l =
+                    sym (simp (sym ex ∙ e, f, le-ltb (length book) books lb, le-ltb (length sheet) sheets ls, sym ey ∙ g, sym ez ∙ h, ap (ltb i) (sym ep) ∙ lt-ltb i p li, ap (ltb j) (sym ep) ∙ lt-ltb j p l))
+
+-- what is known of the slices once nothing refused
+pub record Lent (n : ℕ) (book : List ℕ) (books : ℕ) (sheet : List ℕ) (sheets i j : ℕ) : Type 0 where
+  pub small : n ≤ 10
+  pub books-in : books ≤ length book
+  pub sheets-in : sheets ≤ length sheet
+  pub good-book : goodBook n (take books book) ≡ true
+  pub good-sheet : goodSheet n (take sheets sheet) ≡ true
+  pub state-lt : i < 2 ^ n
+  pub next-lt : j < 2 ^ n
+
+pub lent-none : (spoilt : Bool) (n : ℕ) (book : List ℕ) (books : ℕ) (sheet : List ℕ) (sheets i j : ℕ) → lentCode spoilt n book books sheet sheets i j ≡ 0 → Lent n book books sheet sheets i j
+unfolding lentCode
+lent-none spoilt n book books sheet sheets i j e =
+    let a = refuse-none (not (panelSize n)) 1 _ e in
+    let b = refuse-none (spoilt || (ltb (length book) books || ltb (length sheet) sheets)) 2 _ (a .1) in
+    let c = refuse-none (not (goodBook n (take books book))) 3 _ (b .1) in
+    let d = refuse-none (not (goodSheet n (take sheets sheet))) 4 _ (c .1) in
+    let f = refuse-none (not (ltb i (2 ^ n) && ltb j (2 ^ n))) 5 _ (d .1) in
+    let q = or-no (ltb (length book) books) (ltb (length sheet) sheets) (or-no spoilt (ltb (length book) books || ltb (length sheet) sheets) (b .0) .1) in
+    let s = not-no (ltb i (2 ^ n) && ltb j (2 ^ n)) (f .0) in
+    record {
+      small = size-of n (not-no (panelSize n) (a .0)) .1;
+      books-in = ltb-false (length book) books (q .0);
+      sheets-in = ltb-false (length sheet) sheets (q .1);
+      good-book = not-no (goodBook n (take books book)) (c .0);
+      good-sheet = not-no (goodSheet n (take sheets sheet)) (d .0);
+      state-lt = ltb-true i (2 ^ n) (and-l (ltb i (2 ^ n)) (ltb j (2 ^ n)) s);
+      next-lt = ltb-true j (2 ^ n) (and-r (ltb i (2 ^ n)) (ltb j (2 ^ n)) s);
+    }
+  where
+    not-no : (b : Bool) → not b ≡ false → b ≡ true
+    not-no true p = refl
+    not-no false p = sym p
+
+    or-no : (a b : Bool) → (a || b) ≡ false → (a ≡ false) × (b ≡ false)
+    or-no true b p = absurd (false≢true (sym p))
+    or-no false b p = (refl, p)
+
+-- ---- the codes 1, 7 and 8
+
+module _ (i j room : ℕ) (book : List ℕ) (lj : j < 1024) (up : statesUp book ≡ true) (r : Found) (er : r ≡ findState i book) where
+  abbrev t : ℕ
+  t = transitionWord i j
+
+  at-t : (k : ℕ) → r ≡ At k → findState (state t) book ≡ At k
+  at-t k e = ap (λ (x : ℕ). findState x book) (state-word i j lj) ∙ sym er ∙ e
+
+  gap-t : (k : ℕ) → r ≡ Gap k → findState (state t) book ≡ Gap k
+  gap-t k e = ap (λ (x : ℕ). findState x book) (state-word i j lj) ∙ sym er ∙ e
+
+  pub booking-in : (k : ℕ) → r ≡ At k → k < length book
+  booking-in k e = stands-of-at i book k (sym er ∙ e) .inside
+
+  has-is : (k : ℕ) → r ≡ At k → (x : ℕ) → x ≡ next (getD book k 0) → has t book ≡ eqb x j
+  has-is k e x ex = has-of-at t book up k (at-t k e) ∙ ap₂ eqb (sym ex) (next-word i j lj)
+
+  pub booking-same : (k : ℕ) → r ≡ At k → (x : ℕ) → x ≡ next (getD book k 0) → x ≡ j → 1 ≡ bookingCode t room book
+  unfolding bookingCode
+  booking-same k e x ex q = sym (simp (has-is k e x ex ∙ eq-eqb x j q))
+
+  pub booking-other : (k : ℕ) → r ≡ At k → (x : ℕ) → x ≡ next (getD book k 0) → (x ≡ j → ⊥) → 7 ≡ bookingCode t room book
+  unfolding bookingCode
+  booking-other k e x ex f = sym (simp (has-is k e x ex ∙ ne-eqb x j f, booked-of-at t book k (at-t k e)))
+
+  pub booking-full : (k : ℕ) → r ≡ Gap k → room ≤ length book → 8 ≡ bookingCode t room book
+  unfolding bookingCode
+  booking-full k e l =
+      sym (simp (new-of-gap t book up k (gap-t k e), free-of-gap t book up k (gap-t k e), lt-ltb room (length book + 1) (omega arith)))
+
+  pub booking-ok : (k : ℕ) → r ≡ Gap k → length book < room → 0 ≡ bookingCode t room book
+  unfolding bookingCode
+  booking-ok k e l =
+      sym (simp (new-of-gap t book up k (gap-t k e), free-of-gap t book up k (gap-t k e), le-ltb room (length book + 1) (omega arith)))
+
+pub booking-none : (t room : ℕ) (book : List ℕ) → bookingCode t room book ≡ 0 → (has t book ≡ false) × (booked t book ≡ false) × (length book < room)
+unfolding bookingCode
+booking-none t room book e =
+    let a = refuse-none (has t book) 0 _ e in
+    let b = refuse-none (booked t book) 6 _ (a .1) in
+    let c = refuse-none (ltb room (length book + 1)) 7 _ (b .1) in
+    (a .0, b .0, omega (arith, ltb-false room (length book + 1) (c .0)))

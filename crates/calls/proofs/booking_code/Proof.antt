@@ -1,0 +1,52 @@
+-- `calls::booking_code` meets its contract.
+use native.Mathlib.Omega.{arith}
+use denote.Ref.{now}
+use Rattle.calls.proofs.Codes.{booking-in, booking-same, booking-other, booking-full, booking-ok}
+use borrow.Author.Needs.{needs}
+use Rattle.calls.proofs.booking_code.Statement.{statement}
+use Rattle.calls.proofs.booking_code.Tie as tie
+
+find-state-requires : tie.Need-find-state-requires
+find-state-requires c κs = search needs
+
+enum-known-found : tie.Need-enum-known-found
+enum-known-found c = search needs
+
+mul-next-of : tie.Need-mul-next-of
+mul-next-of c = omega (arith, booking-in _ _ 0 (now (c .before .before .before .before .before .args .book)) (c .before .before .before .before .before .pre .1) (c .before .before .before .before .before .pre .2) _ (c .before .before .before .find-state .ensures) _ (c .before .found .given .1))
+
+shared-slice-read-next-of : tie.Need-shared-slice-read-next-of
+shared-slice-read-next-of c = booking-in _ _ 0 (now (c .before .before .before .before .before .before .args .book)) (c .before .before .before .before .before .before .pre .1) (c .before .before .before .before .before .before .pre .2) _ (c .before .before .before .before .find-state .ensures) _ (c .before .before .found .given .1)
+
+next-of-requires : tie.Need-next-of-requires
+next-of-requires c κs = search needs
+
+returns : tie.Need-returns
+returns c = booking-same _ _ _ _ (c .before .before .before .before .before .before .before .before .pre .1) (c .before .before .before .before .before .before .before .before .pre .2) _ (c .before .before .before .before .before .before .find-state .ensures) _ (c .before .before .before .before .found .given .1) _ (c .before .next-of .ensures) (c .if1 .taken)
+
+enum-told : tie.Need-enum-told
+enum-told c = search needs
+
+returns-2 : tie.Need-returns-2
+returns-2 c = booking-full _ _ _ _ (c .before .before .before .before .before .pre .1) (c .before .before .before .before .before .pre .2) _ (c .before .before .before .find-state .ensures) _ (c .before .enum-told .given .1) (c .if2 .taken)
+
+returns-3 : tie.Need-returns-3
+returns-3 c = booking-other _ _ _ _ (c .before .before .before .before .before .before .before .before .pre .1) (c .before .before .before .before .before .before .before .before .pre .2) _ (c .before .before .before .before .before .before .find-state .ensures) _ (c .before .before .before .before .found .given .1) _ (c .before .next-of .ensures) (c .if1 .left)
+
+returns-4 : tie.Need-returns-4
+returns-4 c = booking-ok _ _ _ _ (c .before .before .before .before .before .pre .1) (c .before .before .before .before .before .pre .2) _ (c .before .before .before .find-state .ensures) _ (c .before .enum-told .given .1) (c .if2 .left)
+
+pub booking-code-spec : {M : Type 1} → statement M
+booking-code-spec =
+    tie.close
+    (tie.spec
+    find-state-requires
+    enum-known-found
+    mul-next-of
+    shared-slice-read-next-of
+    next-of-requires
+    returns
+    enum-told
+    returns-2
+    returns-3
+    returns-4)

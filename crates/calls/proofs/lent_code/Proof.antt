@@ -1,0 +1,73 @@
+-- `calls::lent_code` meets its contract.
+use mathlib.Core.Path.{sym, _∙_}
+use lib.Seq.{length-take-le}
+use borrow.Author.Tests.{not-true, not-false}
+use Rattle.calls.proofs.Codes.{size-of, lent-size, lent-spoilt, lent-books, lent-sheets, lent-bad-book, lent-bad-sheet, lent-state, lent-next, lent-ok}
+use borrow.Author.Needs.{needs}
+use Rattle.calls.proofs.lent_code.Statement.{statement}
+use Rattle.calls.proofs.lent_code.Tie as tie
+
+is-panel-size-requires : tie.Need-is-panel-size-requires
+is-panel-size-requires c κs = search needs
+
+returns : tie.Need-returns
+returns c = lent-size _ _ _ _ _ _ _ _ _ (c .before .is-panel-size .ensures) (not-true _ (c .if1 .taken))
+
+returns-2 : tie.Need-returns-2
+returns-2 c = lent-spoilt _ _ _ _ _ _ _ _ _ (c .before .before .is-panel-size .ensures) (not-false _ (c .before .if1 .left)) (c .if2 .taken)
+
+returns-3 : tie.Need-returns-3
+returns-3 c = lent-books _ _ _ _ _ _ _ _ _ (c .before .before .before .is-panel-size .ensures) (not-false _ (c .before .before .if1 .left)) (c .before .if2 .left) (c .if3 .taken)
+
+returns-4 : tie.Need-returns-4
+returns-4 c = lent-sheets _ _ _ _ _ _ _ _ _ (c .before .before .before .before .is-panel-size .ensures) (not-false _ (c .before .before .before .if1 .left)) (c .before .before .if2 .left) (c .before .if3 .left) (c .if4 .taken)
+
+slice-aggregate-is-good-book : tie.Need-slice-aggregate-is-good-book
+slice-aggregate-is-good-book c = sym (length-take-le _ _ (c .before .before .if3 .left))
+
+is-good-book-requires : tie.Need-is-good-book-requires
+is-good-book-requires c κs = size-of _ (sym (c .before .before .before .before .before .is-panel-size .ensures) ∙ not-false _ (c .before .before .before .before .if1 .left)) .1
+
+returns-5 : tie.Need-returns-5
+returns-5 c = lent-bad-book _ _ _ _ _ _ _ _ _ (c .before .before .before .before .before .before .before .is-panel-size .ensures) (not-false _ (c .before .before .before .before .before .before .if1 .left)) (c .before .before .before .before .before .if2 .left) (c .before .before .before .before .if3 .left) (c .before .before .before .if4 .left) _ (c .before .is-good-book .ensures) (not-true _ (c .if5 .taken))
+
+slice-aggregate-is-good-sheet : tie.Need-slice-aggregate-is-good-sheet
+slice-aggregate-is-good-sheet c = sym (length-take-le _ _ (c .before .before .before .before .if4 .left))
+
+is-good-sheet-requires : tie.Need-is-good-sheet-requires
+is-good-sheet-requires c κs = size-of _ (sym (c .before .before .before .before .before .before .before .before .is-panel-size .ensures) ∙ not-false _ (c .before .before .before .before .before .before .before .if1 .left)) .1
+
+returns-6 : tie.Need-returns-6
+returns-6 c = lent-bad-sheet _ _ _ _ _ _ _ _ _ (c .before .before .before .before .before .before .before .before .before .before .is-panel-size .ensures) (not-false _ (c .before .before .before .before .before .before .before .before .before .if1 .left)) (c .before .before .before .before .before .before .before .before .if2 .left) (c .before .before .before .before .before .before .before .if3 .left) (c .before .before .before .before .before .before .if4 .left) _ (c .before .before .before .before .is-good-book .ensures) (not-false _ (c .before .before .before .if5 .left)) _ (c .before .is-good-sheet .ensures) (not-true _ (c .if6 .taken))
+
+power-requires : tie.Need-power-requires
+power-requires c κs = size-of _ (sym (c .before .before .before .before .before .before .before .before .before .before .is-panel-size .ensures) ∙ not-false _ (c .before .before .before .before .before .before .before .before .before .if1 .left)) .1
+
+returns-7 : tie.Need-returns-7
+returns-7 c = lent-state _ _ _ _ _ _ _ _ _ (c .before .before .before .before .before .before .before .before .before .before .before .before .is-panel-size .ensures) (not-false _ (c .before .before .before .before .before .before .before .before .before .before .before .if1 .left)) (c .before .before .before .before .before .before .before .before .before .before .if2 .left) (c .before .before .before .before .before .before .before .before .before .if3 .left) (c .before .before .before .before .before .before .before .before .if4 .left) _ (c .before .before .before .before .before .before .is-good-book .ensures) (not-false _ (c .before .before .before .before .before .if5 .left)) _ (c .before .before .before .is-good-sheet .ensures) (not-false _ (c .before .before .if6 .left)) _ (c .before .power .ensures .0) (c .if7 .taken)
+
+returns-8 : tie.Need-returns-8
+returns-8 c = lent-next _ _ _ _ _ _ _ _ _ (c .before .before .before .before .before .before .before .before .before .before .before .before .before .is-panel-size .ensures) (not-false _ (c .before .before .before .before .before .before .before .before .before .before .before .before .if1 .left)) (c .before .before .before .before .before .before .before .before .before .before .before .if2 .left) (c .before .before .before .before .before .before .before .before .before .before .if3 .left) (c .before .before .before .before .before .before .before .before .before .if4 .left) _ (c .before .before .before .before .before .before .before .is-good-book .ensures) (not-false _ (c .before .before .before .before .before .before .if5 .left)) _ (c .before .before .before .before .is-good-sheet .ensures) (not-false _ (c .before .before .before .if6 .left)) _ (c .before .before .power .ensures .0) (c .before .if7 .left) (c .if8 .taken)
+
+returns-9 : tie.Need-returns-9
+returns-9 c = lent-ok _ _ _ _ _ _ _ _ _ (c .before .before .before .before .before .before .before .before .before .before .before .before .before .is-panel-size .ensures) (not-false _ (c .before .before .before .before .before .before .before .before .before .before .before .before .if1 .left)) (c .before .before .before .before .before .before .before .before .before .before .before .if2 .left) (c .before .before .before .before .before .before .before .before .before .before .if3 .left) (c .before .before .before .before .before .before .before .before .before .if4 .left) _ (c .before .before .before .before .before .before .before .is-good-book .ensures) (not-false _ (c .before .before .before .before .before .before .if5 .left)) _ (c .before .before .before .before .is-good-sheet .ensures) (not-false _ (c .before .before .before .if6 .left)) _ (c .before .before .power .ensures .0) (c .before .if7 .left) (c .if8 .left)
+
+pub lent-code-spec : {M : Type 1} → statement M
+lent-code-spec =
+    tie.close
+    (tie.spec
+    is-panel-size-requires
+    returns
+    returns-2
+    returns-3
+    returns-4
+    slice-aggregate-is-good-book
+    is-good-book-requires
+    returns-5
+    slice-aggregate-is-good-sheet
+    is-good-sheet-requires
+    returns-6
+    power-requires
+    returns-7
+    returns-8
+    returns-9)

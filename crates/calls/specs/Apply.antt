@@ -1,0 +1,27 @@
+-- Apply: the answer and the state, for all inputs.
+use mathlib.Core.Path.{_≡_}
+use mathlib.Core.Bool.{not}
+use mathlib.Core.List.{List}
+use Prim.Native.Nat.{ℕ, zero, suc, _^_}
+use lib.Dec.{ltb}
+use lib.ListN.{length, take}
+use Rattle.panel.specs.Masks.{panelSize}
+use Rattle.prime.specs.Sheets.{goodSheet, applySheet}
+use Rattle.answers.specs.Answers.{refuse, plain}
+use Rattle.calls.specs.declared.Applied.{Applied}
+
+unfoldable pub applyCode : ℕ → List ℕ → ℕ → ℕ → ℕ
+applyCode n sheet sheets x =
+    refuse (not (panelSize n)) 2
+    (refuse (ltb (length sheet) sheets) 3
+    (refuse (not (goodSheet n (take sheets sheet))) 5
+    (refuse (not (ltb x (2 ^ n))) 6 0)))
+
+abbrev pub stateIf : ℕ → ℕ → ℕ
+stateIf zero x = x
+stateIf (suc c) x = 0
+
+-- counts 0 always; the state that the sheet gives, 0 where refused
+unfoldable pub applyAnswer : ℕ → List ℕ → ℕ → ℕ → Applied
+applyAnswer n sheet sheets x =
+    record { answer = plain (applyCode n sheet sheets x) 0 0 0; state = stateIf (applyCode n sheet sheets x) (applySheet n (take sheets sheet) x) }
