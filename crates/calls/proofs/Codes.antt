@@ -24,6 +24,11 @@ use Rattle.answers.proofs.Laws.{refuse-none}
 use Rattle.calls.specs.Fresh.{freshCode}
 use Rattle.calls.specs.Take.{lentCode, bookingCode}
 
+-- a test whose negation failed passes
+pub not-no : (b : Bool) → not b ≡ false → b ≡ true
+not-no true p = refl
+not-no false p = sym p
+
 -- ---- n
 
 pub size-of : (n : ℕ) → panelSize n ≡ true → (0 < n) × (n ≤ 10)
@@ -124,10 +129,6 @@ lent-none spoilt n book books sheet sheets i j e =
       next-lt = ltb-true j (2 ^ n) (and-r (ltb i (2 ^ n)) (ltb j (2 ^ n)) s);
     }
   where
-    not-no : (b : Bool) → not b ≡ false → b ≡ true
-    not-no true p = refl
-    not-no false p = sym p
-
     or-no : (a b : Bool) → (a || b) ≡ false → (a ≡ false) × (b ≡ false)
     or-no true b p = absurd (false≢true (sym p))
     or-no false b p = (refl, p)

@@ -33,7 +33,7 @@ use Rattle.answers.specs.declared.Answer.{Answer}
 use Rattle.answers.proofs.Laws.{answer-refused, words-refused, answer-done, words-done, refuse-none, refuse-first, refuse-after, refuse-both}
 use Rattle.calls.specs.Fresh.{freshCode, freshAnswer, freshWords, Fresh}
 use Rattle.calls.specs.Take.{lentCode, bookingCode, entryCode, takeCode, innerCode, innerAnswer, Ready, Inner, takeAnswer, takeBook, takeWords, Taken}
-use Rattle.calls.proofs.Codes.{size-of, Lent, lent-none, booking-none}
+use Rattle.calls.proofs.Codes.{not-no, size-of, Lent, lent-none, booking-none}
 
 same-done : (b : ℕ) {p p′ q q′ u u′ : ℕ} → p ≡ p′ → q ≡ q′ → u ≡ u′ → done b p q u ≡ done b p′ q′ u′
 same-done b e1 e2 e3 = λ x. done b (e1 x) (e2 x) (e3 x)
@@ -46,10 +46,6 @@ fresh-none n room e =
     let a = refuse-none (not (panelSize n)) 1 _ e in
     let b = refuse-none (ltb room n) 8 _ (a .1) in
     (size-of n (not-no (panelSize n) (a .0)) .1, ltb-false room n (b .0))
-  where
-    not-no : (b : Bool) → not b ≡ false → b ≡ true
-    not-no true p = refl
-    not-no false p = sym p
 
 module _ (n : ℕ) (s : List ℕ) (c : ℕ) (ec : c ≡ freshCode n (length s)) where
   pub fresh-refused : (c ≡ 0 → ⊥) → (r : Answer) → r ≡ plain c 0 0 0 → Fresh n s s r

@@ -194,3 +194,38 @@ pub fn take(
 {
     take_unless(false, n, i, j, book, books, sheet, sheets)
 }
+
+fn apply_code(n: u32, sheet: &[u32], sheets: usize, x: u32) -> u32
+    ensures { λ r. ⌜ r ≡ applyCode n (now (sheet .entry)) sheets x ⌝ }
+{
+    if !panel::is_panel_size(n) {
+        return 2;
+    }
+    if sheet.len() < sheets {
+        return 3;
+    }
+    if !prime::is_good_sheet(n, &sheet[..sheets]) {
+        return 5;
+    }
+    if panel::power(n) <= x {
+        return 6;
+    }
+    0
+}
+
+// Applies the sheet to a state: a relay is on in the answer exactly if some rule of it covers the state.
+pub fn apply(n: u32, sheet: &[u32], sheets: usize, x: u32) -> Applied
+    ensures { λ r. ⌜ r ≡ applyAnswer n (now (sheet .entry)) sheets x ⌝ }
+{
+    let code = apply_code(n, sheet, sheets, x);
+    if code != 0 {
+        return Applied {
+            answer: plain_answer(code, 0, 0, 0),
+            state: 0,
+        };
+    }
+    Applied {
+        answer: plain_answer(0, 0, 0, 0),
+        state: prime::apply_rules(n, &sheet[..sheets], x),
+    }
+}
