@@ -19,7 +19,7 @@ pub struct Applied {
     pub state: u32,
 }
 
-fn fresh_code(n: u32, room: usize) -> u32
+pub fn fresh_code(n: u32, room: usize) -> u32
     ensures { λ r. ⌜ r ≡ freshCode n room ⌝ }
 {
     if !panel::is_panel_size(n) {
@@ -87,7 +87,7 @@ fn lent_code(
 }
 
 // The codes 1, 7 and 8: this transition is booked, another of its state is, the book is full.
-fn booking_code(book: &[u32], i: u32, j: u32, room: usize) -> u32
+pub fn booking_code(book: &[u32], i: u32, j: u32, room: usize) -> u32
     requires { ⌜ (i < 1024) × (j < 1024) × (statesUp (now book) ≡ true) ⌝ }
     ensures { λ r. ⌜ r ≡ bookingCode (transitionWord i j) room (now (book .entry)) ⌝ }
 {

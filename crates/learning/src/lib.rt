@@ -1,0 +1,128 @@
+// Learn: fresh, then take for each word of a list, then the self-check.
+use answers::Answer;
+use answers::done_answer;
+use answers::plain_answer;
+ghost use mathlib.Core.Path.{_≡_};
+ghost use mathlib.Core.Bool.{true};
+ghost use Prim.Native.Nat.{_≤_};
+ghost use lib.ListN.{length};
+ghost use Rattle.table.specs.Lists.{all};
+ghost use Rattle.panel.specs.Rules.{validRule};
+ghost use Rattle.learning.specs.Learn.{reproduced, Learned};
+ghost use Rattle.learning.specs.Running.{Fit, Stepped, Through, Begun, Finished};
+
+// The word t, number k of the list; a refusal stands.
+fn learn_word(
+    n: u32,
+    t: u32,
+    k: usize,
+    before: Answer,
+    book: &mut [u32],
+    sheet: &mut [u32],
+) -> Answer
+    requires { ⌜ Fit n before (now book) (now sheet) ⌝ }
+    ensures { λ r. ⌜ Stepped n k t before (now (book .entry)) (now (sheet .entry)) r (now (book .exit)) (now (sheet .exit)) ⌝ }
+{
+    if before.code != 0 {
+        return before;
+    }
+    if !panel::is_transition(n, t) {
+        return plain_answer(6, k, 0, 0);
+    }
+    let books = before.book_count;
+    let room = book.len();
+    let i = panel::state_of(t);
+    let j = panel::next_of(t);
+    let code = calls::booking_code(&book[..books], i, j, room);
+    if code == 1 {
+        return before;
+    }
+    if code != 0 {
+        return plain_answer(code, k, 0, 0);
+    }
+    let sheets = before.sheet_count;
+    let now = calls::take_in(n, t, book, books, sheet, sheets);
+    if now.code != 0 {
+        return plain_answer(now.code, k, 0, 0);
+    }
+    done_answer(
+        now.book_count,
+        now.sheet_count,
+        before.struck + now.struck,
+        before.added + now.added,
+    )
+}
+
+// The fresh sheet to start from, or the refusal.
+fn learn_start(n: u32, sheet: &mut [u32]) -> Answer
+    ensures { λ r. ⌜ Begun n (now (sheet .entry)) r (now (sheet .exit)) ⌝ }
+{
+    let code = calls::fresh_code(n, sheet.len());
+    if code != 0 {
+        return plain_answer(code, 0, 0, 0);
+    }
+    sheet::write_fresh(sheet, n);
+    done_answer(0, n as usize, 0, 0)
+}
+
+// Every word of the list in turn.
+fn learn_words(n: u32, words: &[u32], start: Answer, book: &mut [u32], sheet: &mut [u32]) -> Answer
+    requires { ⌜ Fit n start (now book) (now sheet) ⌝ }
+    ensures { λ r. ⌜ Through n (now (words .entry)) start (now (book .entry)) (now (sheet .entry)) r (now (book .exit)) (now (sheet .exit)) ⌝ }
+{
+    let mut so = start;
+    let mut k: usize = 0;
+    while k < words.len() {
+        so = learn_word(n, words[k], k, so, book, sheet);
+        k += 1;
+    }
+    so
+}
+
+// How many words of the book, from the front, the sheet reproduces.
+fn count_reproduced(n: u32, book: &[u32], sheet: &[u32]) -> usize
+    requires { ⌜ (n ≤ 10) × (all (validRule n) (now sheet) ≡ true) ⌝ }
+    ensures { λ r. ⌜ (r ≡ reproduced n (now (sheet .entry)) (now (book .entry))) × (r ≤ length (now (book .entry))) ⌝ }
+{
+    let mut k: usize = 0;
+    while k < book.len() {
+        let t = book[k];
+        if prime::apply_rules(n, sheet, panel::state_of(t)) != panel::next_of(t) {
+            return k;
+        }
+        k += 1;
+    }
+    k
+}
+
+// The self-check, and the words beyond both tables cleared; a refusal clears all.
+fn learn_end(n: u32, so: Answer, book: &mut [u32], sheet: &mut [u32]) -> Answer
+    requires { ⌜ Fit n so (now book) (now sheet) ⌝ }
+    ensures { λ r. ⌜ Finished n so (now (book .entry)) (now (sheet .entry)) r (now (book .exit)) (now (sheet .exit)) ⌝ }
+{
+    if so.code != 0 {
+        table::clear(book);
+        table::clear(sheet);
+        return so;
+    }
+    let books = so.book_count;
+    let sheets = so.sheet_count;
+    let sound = count_reproduced(n, &book[..books], &sheet[..sheets]);
+    if sound < books {
+        table::clear(book);
+        table::clear(sheet);
+        return plain_answer(10, sound, 0, 0);
+    }
+    table::clear_from(book, books);
+    table::clear_from(sheet, sheets);
+    so
+}
+
+// Learns a list of transition words: book and sheet of the list, old contents of both slices ignored.
+pub fn learn(n: u32, words: &[u32], book: &mut [u32], sheet: &mut [u32]) -> Answer
+    ensures { λ r. ⌜ Learned n (now (words .entry)) (length (now (book .entry))) (length (now (sheet .entry))) (now (book .exit)) (now (sheet .exit)) r ⌝ }
+{
+    let start = learn_start(n, sheet);
+    let so = learn_words(n, words, start, book, sheet);
+    learn_end(n, so, book, sheet)
+}
