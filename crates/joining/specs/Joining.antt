@@ -21,6 +21,7 @@ pub record Piece : Type 0 where
   pub sheet-words : List ℕ
   pub sheet-count : ℕ
 
+-- a piece made of its four parts
 abbrev pub piece : List ℕ → ℕ → List ℕ → ℕ → Piece
 piece book books sheet sheets = record { book-words = book; book-count = books; sheet-words = sheet; sheet-count = sheets }
 

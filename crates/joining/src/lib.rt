@@ -39,77 +39,67 @@ fn are_good_sheets(n: u32, a: &[u32], b: &[u32]) -> bool
     }
 }
 
-// The code of the two pieces by themselves: panel, counts, books, sheets.
+// The code of two pieces by themselves: the books a and b and the sheets s and t, each with its count.
 fn pieces_code(
     n: u32,
-    a_book: &[u32],
-    a_book_count: usize,
-    a_sheet: &[u32],
-    a_sheet_count: usize,
-    b_book: &[u32],
-    b_book_count: usize,
-    b_sheet: &[u32],
-    b_sheet_count: usize,
+    a: &[u32],
+    ac: usize,
+    s: &[u32],
+    sc: usize,
+    b: &[u32],
+    bc: usize,
+    t: &[u32],
+    tc: usize,
 ) -> u32
-    ensures { λ r. ⌜ r ≡ piecesCode n (piece (now («a_book» .entry)) «a_book_count» (now («a_sheet» .entry)) «a_sheet_count») (piece (now («b_book» .entry)) «b_book_count» (now («b_sheet» .entry)) «b_sheet_count») 0 ⌝ }
+    ensures { λ r. ⌜ r ≡ piecesCode n (piece (now (a .entry)) ac (now (s .entry)) sc) (piece (now (b .entry)) bc (now (t .entry)) tc) 0 ⌝ }
 {
     if !panel::is_panel_size(n) {
         return 2;
     }
-    if exceeds_slice(a_book, a_book_count, a_sheet, a_sheet_count) {
+    if exceeds_slice(a, ac, s, sc) {
         return 3;
     }
-    if exceeds_slice(b_book, b_book_count, b_sheet, b_sheet_count) {
+    if exceeds_slice(b, bc, t, tc) {
         return 3;
     }
-    if !are_good_books(n, &a_book[..a_book_count], &b_book[..b_book_count]) {
+    if !are_good_books(n, &a[..ac], &b[..bc]) {
         return 4;
     }
-    if !are_good_sheets(n, &a_sheet[..a_sheet_count], &b_sheet[..b_sheet_count]) {
+    if !are_good_sheets(n, &s[..sc], &t[..tc]) {
         return 5;
     }
     0
 }
 
-// The code of a join whose slices have so much room for the book and for the sheet; nothing is written.
+// The code of their join, with so much room for the book and for the sheet. Nothing is written.
 fn join_code(
     n: u32,
-    a_book: &[u32],
-    a_book_count: usize,
-    a_sheet: &[u32],
-    a_sheet_count: usize,
-    b_book: &[u32],
-    b_book_count: usize,
-    b_sheet: &[u32],
-    b_sheet_count: usize,
-    book_room: usize,
-    sheet_room: usize,
+    a: &[u32],
+    ac: usize,
+    s: &[u32],
+    sc: usize,
+    b: &[u32],
+    bc: usize,
+    t: &[u32],
+    tc: usize,
+    books: usize,
+    sheets: usize,
 ) -> u32
-    ensures { λ r. ⌜ r ≡ joinCode n (piece (now («a_book» .entry)) «a_book_count» (now («a_sheet» .entry)) «a_sheet_count») (piece (now («b_book» .entry)) «b_book_count» (now («b_sheet» .entry)) «b_sheet_count») «book_room» «sheet_room» ⌝ }
+    ensures { λ r. ⌜ r ≡ joinCode n (piece (now (a .entry)) ac (now (s .entry)) sc) (piece (now (b .entry)) bc (now (t .entry)) tc) books sheets ⌝ }
 {
-    let code = pieces_code(
-        n,
-        a_book,
-        a_book_count,
-        a_sheet,
-        a_sheet_count,
-        b_book,
-        b_book_count,
-        b_sheet,
-        b_sheet_count,
-    );
+    let code = pieces_code(n, a, ac, s, sc, b, bc, t, tc);
     if code != 0 {
         return code;
     }
-    let a = &a_book[..a_book_count];
-    let b = &b_book[..b_book_count];
-    if book::do_clash(a, b) {
+    let left = &a[..ac];
+    let right = &b[..bc];
+    if book::do_clash(left, right) {
         return 7;
     }
-    if book_room < book::count_union(a, b) {
+    if books < book::count_union(left, right) {
         return 8;
     }
-    if sheet_room < walk::count_join(n, &a_sheet[..a_sheet_count], &b_sheet[..b_sheet_count]) {
+    if sheets < walk::count_join(n, &s[..sc], &t[..tc]) {
         return 9;
     }
     0
@@ -168,11 +158,8 @@ pub fn join(
         return answers::plain_answer(code, 0, 0, 0);
     }
     let books = fill_book(&a_book[..a_book_count], &b_book[..b_book_count], book);
-    let sheets = fill_sheet(
-        n,
-        &a_sheet[..a_sheet_count],
-        &b_sheet[..b_sheet_count],
-        sheet,
-    );
+    let s = &a_sheet[..a_sheet_count];
+    let t = &b_sheet[..b_sheet_count];
+    let sheets = fill_sheet(n, s, t, sheet);
     answers::done_answer(books, sheets, 0, 0)
 }

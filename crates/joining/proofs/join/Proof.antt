@@ -25,11 +25,11 @@ slice-aggregate-fill-book-2 c = sym (length-take-le _ _ (joinable-e _ _ _ _ _ (s
 fill-book-requires : tie.Need-fill-book-requires
 fill-book-requires c κs = book-ready _ _ _ _ _ (joinable-e _ _ _ _ _ (sym (c .before .before .before .before .join-code .ensures) ∙ c .before .before .before .if1 .left))
 
-slice-aggregate-fill-sheet : tie.Need-slice-aggregate-fill-sheet
-slice-aggregate-fill-sheet c = sym (length-take-le _ _ (joinable-e _ _ _ _ _ (sym (c .before .before .before .before .before .before .before .before .join-code .ensures) ∙ c .before .before .before .before .before .before .before .if1 .left) .pieces .left .sheet-in))
+slice-aggregate-s : tie.Need-slice-aggregate-s
+slice-aggregate-s c = sym (length-take-le _ _ (joinable-e _ _ _ _ _ (sym (c .before .before .before .before .before .before .before .before .join-code .ensures) ∙ c .before .before .before .before .before .before .before .if1 .left) .pieces .left .sheet-in))
 
-slice-aggregate-fill-sheet-2 : tie.Need-slice-aggregate-fill-sheet-2
-slice-aggregate-fill-sheet-2 c = sym (length-take-le _ _ (joinable-e _ _ _ _ _ (sym (c .before .before .before .before .before .before .before .before .before .join-code .ensures) ∙ c .before .before .before .before .before .before .before .before .if1 .left) .pieces .right .sheet-in))
+slice-aggregate-t : tie.Need-slice-aggregate-t
+slice-aggregate-t c = sym (length-take-le _ _ (joinable-e _ _ _ _ _ (sym (c .before .before .before .before .before .before .before .before .before .join-code .ensures) ∙ c .before .before .before .before .before .before .before .before .if1 .left) .pieces .right .sheet-in))
 
 fill-sheet-requires : tie.Need-fill-sheet-requires
 fill-sheet-requires c κs = sheet-ready _ _ _ _ _ (joinable-e _ _ _ _ _ (sym (c .before .before .before .before .before .before .before .before .before .before .join-code .ensures) ∙ c .before .before .before .before .before .before .before .before .before .if1 .left))
@@ -56,8 +56,8 @@ join-spec =
     slice-aggregate-fill-book
     slice-aggregate-fill-book-2
     fill-book-requires
-    slice-aggregate-fill-sheet
-    slice-aggregate-fill-sheet-2
+    slice-aggregate-s
+    slice-aggregate-t
     fill-sheet-requires
     done-answer-requires
     same-length

@@ -13,11 +13,11 @@ pieces-code-requires c κs = search needs
 returns : tie.Need-returns
 returns c = code-pieces _ _ _ _ _ _ (c .before .pieces-code .ensures) (c .if1 .taken)
 
-slice-aggregate-a : tie.Need-slice-aggregate-a
-slice-aggregate-a c = sym (length-take-le _ _ (good-pieces _ _ _ _ (c .before .before .pieces-code .ensures) (c .before .if1 .left) .left .book-in))
+slice-aggregate-left : tie.Need-slice-aggregate-left
+slice-aggregate-left c = sym (length-take-le _ _ (good-pieces _ _ _ _ (c .before .before .pieces-code .ensures) (c .before .if1 .left) .left .book-in))
 
-slice-aggregate-b : tie.Need-slice-aggregate-b
-slice-aggregate-b c = sym (length-take-le _ _ (good-pieces _ _ _ _ (c .before .before .before .pieces-code .ensures) (c .before .before .if1 .left) .right .book-in))
+slice-aggregate-right : tie.Need-slice-aggregate-right
+slice-aggregate-right c = sym (length-take-le _ _ (good-pieces _ _ _ _ (c .before .before .before .pieces-code .ensures) (c .before .before .if1 .left) .right .book-in))
 
 do-clash-requires : tie.Need-do-clash-requires
 do-clash-requires c κs = books-rise _ _ _ (good-pieces _ _ _ _ (c .before .before .before .pieces-code .ensures) (c .before .before .if1 .left))
@@ -52,8 +52,8 @@ join-code-spec =
     (tie.spec
     pieces-code-requires
     returns
-    slice-aggregate-a
-    slice-aggregate-b
+    slice-aggregate-left
+    slice-aggregate-right
     do-clash-requires
     returns-2
     count-union-requires
