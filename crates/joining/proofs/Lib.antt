@@ -1,0 +1,4 @@
+pub mod Judging
+pub mod Doing
+pub mod Promises
+pub mod Examples
