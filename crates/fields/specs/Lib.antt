@@ -1,0 +1,5 @@
+pub mod Bytes
+pub mod Texts
+pub mod Values
+pub mod Fields
+pub mod Decimals

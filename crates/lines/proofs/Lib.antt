@@ -1,0 +1,4 @@
+pub mod LineLaws
+pub mod BoundLaws
+pub mod Written
+pub mod Examples

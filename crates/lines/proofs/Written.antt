@@ -1,0 +1,102 @@
+-- What lines say that are written by rule: `.i n`, `.o n`, `.p k` and `.e`, with one space and a decimal number.
+use Prim.Native.Nat.{ℕ, _≤_}
+use mathlib.Core.Path.{_≡_, refl, _∙_, ap}
+use mathlib.Core.List.{List, [], _∷_, _++_, append-nil, append-assoc}
+use native.Mathlib.Omega.{arith}
+use lib.ListN.{length, take}
+use borrow.Author.Tests.{ne-eqb, le-ltb}
+use Rattle.fields.specs.Bytes.{markOf, run, same}
+use Rattle.fields.specs.Texts.{body}
+use Rattle.fields.specs.Fields.{close, fieldsFrom, fieldsIn}
+use Rattle.fields.specs.Values.{numberOf}
+use Rattle.fields.specs.Decimals.{decimal}
+use Rattle.fields.specs.declared.Stretch.the-variants.{Body}
+use Rattle.fields.specs.declared.Number.{Number}
+use Rattle.fields.proofs.DecimalLaws.{AllDigits, decimal-all-digits, decimal-length, number-decimal}
+use Rattle.fields.proofs.JoinLaws.{NoFeed, digits-no-feed}
+use Rattle.lines.specs.Lines.{keyOf, keyLine, sizedOf, countOf, classOf, ofFields, lineOf}
+use Rattle.lines.specs.declared.Part.{Part}
+use Rattle.lines.specs.declared.Part.the-variants.{Ins, Outs}
+use Rattle.lines.specs.declared.Key.the-variants.{Size, Count}
+use Rattle.lines.specs.declared.Line.the-variants.{Sized, Rows, End}
+
+digits-body : (s : List ℕ) → AllDigits s → take (run Body s) s ≡ s
+unfolding run
+digits-body [] h = refl
+digits-body (b ∷ s) h = rw (h .0 .1) (ap (λ (x : List ℕ). b ∷ x) (digits-body s (h .1)))
+
+digits-field : (f s : List ℕ) → AllDigits s → fieldsFrom f s ≡ close (f ++ s) []
+unfolding fieldsFrom
+digits-field f [] h = rw append-nil
+digits-field f (b ∷ s) h = rw (h .0 .1) (digits-field (f ++ b ∷ []) s (h .1) ∙ ap (λ (x : List ℕ). close x []) (append-assoc f (b ∷ []) s))
+
+close-some : (s : List ℕ) → 1 ≤ length s → close s [] ≡ s ∷ []
+close-some [] h = absurd (omega arith)
+close-some (b ∷ s) h = refl
+
+-- a keyword of one letter, a space, and digits
+abbrev pub keyed : ℕ → List ℕ → List ℕ
+keyed c s = 46 ∷ c ∷ 32 ∷ s
+
+module _ (s : List ℕ) (h : AllDigits s) (some : 1 ≤ length s) where
+  digits-alone : fieldsFrom [] s ≡ s ∷ []
+  digits-alone = digits-field [] s h ∙ close-some s some
+
+  ins-fields : lineOf (keyed 105 s) ≡ keyLine (Size Ins) (s ∷ [])
+  unfolding lineOf body run markOf fieldsIn fieldsFrom ofFields classOf keyOf same
+  ins-fields = rw (digits-body s h, digits-alone)
+
+  outs-fields : lineOf (keyed 111 s) ≡ keyLine (Size Outs) (s ∷ [])
+  unfolding lineOf body run markOf fieldsIn fieldsFrom ofFields classOf keyOf same
+  outs-fields = rw (digits-body s h, digits-alone)
+
+  count-fields : lineOf (keyed 112 s) ≡ keyLine Count (s ∷ [])
+  unfolding lineOf body run markOf fieldsIn fieldsFrom ofFields classOf keyOf same
+  count-fields = rw (digits-body s h, digits-alone)
+
+  keyed-no-feed : (c : ℕ) → NoFeed (c ∷ []) → NoFeed (keyed c s)
+  unfolding markOf
+  keyed-no-feed c k = (refl, (k .0, (refl, digits-no-feed s h)))
+
+-- `.i n` or `.o n`
+abbrev pub sizeText : Part → ℕ → List ℕ
+sizeText Ins n = keyed 105 (decimal n)
+sizeText Outs n = keyed 111 (decimal n)
+
+pub size-text : (p : Part) (n : ℕ) → 1 ≤ n → n ≤ 10 → lineOf (sizeText p n) ≡ Sized p n
+size-text p n h k = fields p ∙ ap (λ (x : Number). sizedOf p x) (number-decimal n) ∙ rw (ne-eqb n 0 (nope n h), le-ltb 10 n k)
+  where
+    nope : (n : ℕ) → 1 ≤ n → n ≡ 0 → ⊥
+    nope n h e = omega arith
+
+    fields : (p : Part) → lineOf (sizeText p n) ≡ sizedOf p (numberOf (decimal n))
+    fields Ins = ins-fields (decimal n) (decimal-all-digits n) (decimal-length n)
+    fields Outs = outs-fields (decimal n) (decimal-all-digits n) (decimal-length n)
+
+pub size-no-feed : (p : Part) (n : ℕ) → NoFeed (sizeText p n)
+unfolding markOf
+size-no-feed Ins n = keyed-no-feed (decimal n) (decimal-all-digits n) (decimal-length n) 105 (refl, tt)
+size-no-feed Outs n = keyed-no-feed (decimal n) (decimal-all-digits n) (decimal-length n) 111 (refl, tt)
+
+-- `.p k`
+abbrev pub countText : ℕ → List ℕ
+countText k = keyed 112 (decimal k)
+
+pub count-text : (k : ℕ) → lineOf (countText k) ≡ Rows k
+count-text k = count-fields (decimal k) (decimal-all-digits k) (decimal-length k) ∙ ap countOf (number-decimal k)
+
+pub count-no-feed : (k : ℕ) → NoFeed (countText k)
+unfolding markOf
+count-no-feed k = keyed-no-feed (decimal k) (decimal-all-digits k) (decimal-length k) 112 (refl, tt)
+
+-- `.e`
+abbrev pub endText : List ℕ
+endText = 46 ∷ 101 ∷ []
+
+pub end-text : lineOf endText ≡ End
+unfolding lineOf body run markOf fieldsIn fieldsFrom ofFields classOf keyOf same
+end-text = refl
+
+pub end-no-feed : NoFeed endText
+unfolding markOf
+end-no-feed = (refl, (refl, tt))

@@ -1,0 +1,105 @@
+-- What one line says: its comment is cut, its first field says what kind of line it is, and the others follow.
+use Prim.Native.Nat.{ℕ, min}
+use mathlib.Core.List.{List, [], _∷_}
+use mathlib.Core.Bool.{cond}
+use lib.Dec.{eqb, leb, ltb}
+use lib.ListN.{length}
+use Rattle.fields.specs.Bytes.{markOf, same}
+use Rattle.fields.specs.Texts.{body}
+use Rattle.fields.specs.Fields.{fieldsIn, onlyOf}
+use Rattle.fields.specs.Values.{cubeOf, numberOf, most}
+use Rattle.fields.specs.declared.Mark.{Mark}
+use Rattle.fields.specs.declared.Mark.the-variants.{Digit, Dash, Space, Hash, Dot, Feed, Other}
+use Rattle.fields.specs.declared.Cube.{Cube}
+use Rattle.fields.specs.declared.Cube.the-variants.{Columns, NoCube}
+use Rattle.fields.specs.declared.Number.{Number}
+use Rattle.fields.specs.declared.Number.the-variants.{Value, NoNumber}
+use Rattle.lines.specs.declared.Part.{Part}
+use Rattle.lines.specs.declared.Part.the-variants.{Ins, Outs}
+use Rattle.lines.specs.declared.Kind.the-variants.{Recording, Sheet}
+use Rattle.lines.specs.declared.Key.{Key}
+use Rattle.lines.specs.declared.Key.the-variants.{Size, TypeWord, Count, Stop, NoKey}
+use Rattle.lines.specs.declared.Line.{Line}
+use Rattle.lines.specs.declared.Line.the-variants.{Empty, Sized, Typed, Rows, Row, End, Fault}
+
+-- `.i`, `.o`, `.type`, `.p`, `.e` or `.end`
+unfoldable pub keyOf : List ℕ → Key
+keyOf w =
+    cond (same w (46 ∷ 105 ∷ [])) (Size Ins)
+    (cond (same w (46 ∷ 111 ∷ [])) (Size Outs)
+    (cond (same w (46 ∷ 116 ∷ 121 ∷ 112 ∷ 101 ∷ [])) TypeWord
+    (cond (same w (46 ∷ 112 ∷ [])) Count
+    (cond (same w (46 ∷ 101 ∷ [])) Stop
+    (cond (same w (46 ∷ 101 ∷ 110 ∷ 100 ∷ [])) Stop NoKey)))))
+
+-- `.i n` or `.o n`, n being 1 to 10
+abbrev pub sizedOf : Part → Number → Line
+sizedOf p NoNumber = Fault
+sizedOf p (Value v) = cond (eqb v 0) Fault (cond (ltb 10 v) Fault (Sized p v))
+
+-- `.type fr` stands in a recording, `.type f` in a sheet
+unfoldable pub typedOf : List ℕ → Line
+typedOf v = cond (same v (102 ∷ 114 ∷ [])) (Typed Recording) (cond (same v (102 ∷ [])) (Typed Sheet) Fault)
+
+-- `.p k`, k of any length
+abbrev pub countOf : Number → Line
+countOf NoNumber = Fault
+countOf (Value v) = Rows v
+
+-- `.e` or `.end`, with no field after it
+abbrev pub stopOf : List (List ℕ) → Line
+stopOf [] = End
+stopOf (f ∷ fs) = Fault
+
+-- a keyword and the fields after it
+abbrev pub keyLine : Key → List (List ℕ) → Line
+keyLine (Size p) fs = sizedOf p (numberOf (onlyOf fs))
+keyLine TypeWord fs = typedOf (onlyOf fs)
+keyLine Count fs = countOf (numberOf (onlyOf fs))
+keyLine Stop fs = stopOf fs
+keyLine NoKey fs = Fault
+
+-- a row by the masks of its two fields, w columns wide
+abbrev pub rowOf : Cube → Cube → ℕ → Line
+rowOf NoCube b w = Fault
+rowOf (Columns on off free) NoCube w = Fault
+rowOf (Columns on off free) (Columns next rest unread) w =
+    Row (record { on = on; off = off; free = free; next = next; unread = unread; width = w })
+
+-- a row: two fields of one width, at most ten
+unfoldable pub rowLine : List ℕ → List ℕ → Line
+rowLine w v = cond (eqb (length w) (length v)) (cond (leb (length w) 10) (rowOf (cubeOf w) (cubeOf v) (length w)) Fault) Fault
+
+-- the first byte decides: a dot starts a keyword, a digit or a dash a row
+abbrev pub startLine : Mark → List ℕ → List (List ℕ) → Line
+startLine (Digit d) w fs = rowLine w (onlyOf fs)
+startLine Dash w fs = rowLine w (onlyOf fs)
+startLine Dot w fs = keyLine (keyOf w) fs
+startLine Space w fs = Fault
+startLine Hash w fs = Fault
+startLine Feed w fs = Fault
+startLine Other w fs = Fault
+
+-- a line of the field w and the fields fs after it
+unfoldable pub classOf : List ℕ → List (List ℕ) → Line
+classOf [] fs = Empty
+classOf (b ∷ w) fs = startLine (markOf b) (b ∷ w) fs
+
+-- a line by its fields
+unfoldable pub ofFields : List (List ℕ) → Line
+ofFields [] = Empty
+ofFields (w ∷ fs) = classOf w fs
+
+-- what a line says
+unfoldable pub lineOf : List ℕ → Line
+lineOf s = ofFields (fieldsIn (body s))
+
+-- a line as the code keeps it: a number of rows above 10^19 as 10^19
+abbrev pub keepLine : Line → Line
+keepLine Empty = Empty
+keepLine (Sized p n) = Sized p n
+keepLine (Typed t) = Typed t
+keepLine (Rows v) = Rows (min v most)
+keepLine (Row m) = Row m
+keepLine End = End
+keepLine Fault = Fault

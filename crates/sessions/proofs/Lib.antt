@@ -1,0 +1,4 @@
+pub mod Totals
+pub mod Taking
+pub mod Outcomes
+pub mod Use

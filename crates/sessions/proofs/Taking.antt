@@ -1,0 +1,107 @@
+-- What is known of a session's take once it is done: the totals fitted, struck and added are few, and the counts balance.
+use mathlib.Core.Path.{_≡_, refl, sym, ap, _∙_}
+use mathlib.Core.Bool.{Bool, true, false, not, _||_}
+use mathlib.Core.List.{List}
+use Prim.Native.Nat.{ℕ, zero, suc, _+_, _≤_}
+use native.Mathlib.Omega.{arith}
+use lib.Dec.{ltb}
+use lib.ListN.{length, take}
+use lib.Seq.{length-take-le}
+use Rattle.table.proofs.Counting.{missing-le}
+use Rattle.panel.specs.Masks.{panelSize}
+use Rattle.panel.specs.Transitions.{transitionWord}
+use Rattle.prime.specs.Sheets.{takeSheet, struckCount, addedCount}
+use Rattle.sheet.specs.Taking.{tallyOf}
+use Rattle.answers.specs.Answers.{plain, done, answerIf}
+use Rattle.answers.specs.declared.Answer.{Answer}
+use Rattle.answers.proofs.Laws.{answer-done, refuse-none, refuse-both}
+use Rattle.calls.specs.Take.{lentCode, entryCode, takeCode, takeAnswer, Ready}
+use Rattle.calls.proofs.Ends.{entry-ready, count-is, added-few, sheets-few}
+use Rattle.sessions.specs.declared.Session.{Session}
+use Rattle.sessions.specs.Sessions.{totalsFit, sessionAnswer}
+
+-- a take that is not refused was not spoilt
+lent-unspoilt : (spoilt : Bool) (n : ℕ) (book : List ℕ) (books : ℕ) (sheet : List ℕ) (sheets i j : ℕ) → lentCode spoilt n book books sheet sheets i j ≡ 0 → spoilt ≡ false
+unfolding lentCode
+lent-unspoilt spoilt n book books sheet sheets i j e =
+    or-no spoilt (ltb (length book) books || ltb (length sheet) sheets) (refuse-none (spoilt || (ltb (length book) books || ltb (length sheet) sheets)) 2 _ (refuse-none (not (panelSize n)) 1 _ e .1) .0)
+  where
+    or-no : (a b : Bool) → (a || b) ≡ false → a ≡ false
+    or-no true b p = p
+    or-no false b p = refl
+
+module _ (s : Session) (book sheet : List ℕ) (i j : ℕ) where
+  abbrev old : List ℕ
+  old = take (s .«sheet_count») sheet
+
+  abbrev new : List ℕ
+  new = takeSheet (s .n) old (transitionWord i j)
+
+  abbrev entry : ℕ
+  entry = entryCode (not (totalsFit s)) (s .n) book (s .«book_count») sheet (s .«sheet_count») i j
+
+  abbrev code : ℕ
+  code = takeCode (not (totalsFit s)) (s .n) book (s .«book_count») sheet (s .«sheet_count») i j
+
+  code-is : sessionAnswer s book sheet i j .code ≡ code
+  unfolding sessionAnswer takeAnswer
+  code-is = picked code
+    where
+      picked : (c : ℕ) → answerIf c (done (s .«book_count» + 1) (length new) (struckCount old new) (addedCount old new)) (plain c 0 (s .«book_count») (s .«sheet_count»)) .code ≡ c
+      picked zero = refl
+      picked (suc c) = refl
+
+  module _ (z : sessionAnswer s book sheet i j .code ≡ 0) where
+    code-zero : code ≡ 0
+    code-zero = sym code-is ∙ z
+
+    entry-zero : entry ≡ 0
+    unfolding takeCode
+    entry-zero = refuse-both entry _ code-zero .0
+
+    pub totals-fitted : totalsFit s ≡ true
+    unfolding entryCode
+    totals-fitted = not-no (totalsFit s) (lent-unspoilt (not (totalsFit s)) (s .n) book (s .«book_count») sheet (s .«sheet_count») i j (refuse-both (lentCode (not (totalsFit s)) (s .n) book (s .«book_count») sheet (s .«sheet_count») i j) _ entry-zero .0))
+      where
+        not-no : (b : Bool) → not b ≡ false → b ≡ true
+        not-no true p = refl
+        not-no false p = sym p
+
+    ready : Ready (s .n) book (s .«book_count») sheet (s .«sheet_count»)
+    ready = entry-ready (not (totalsFit s)) (s .n) book (s .«book_count») sheet (s .«sheet_count») i j entry refl entry-zero
+
+    pub answer-is : sessionAnswer s book sheet i j ≡ done (s .«book_count» + 1) (length new) (struckCount old new) (addedCount old new)
+    unfolding sessionAnswer takeAnswer
+    answer-is = answer-done code _ _ code-zero
+
+    pub few-struck : sessionAnswer s book sheet i j .struck ≤ 16777216
+    unfolding struckCount
+    few-struck =
+        omega (
+          arith,
+          ap (λ (a : Answer). a .struck) answer-is,
+          missing-le new old,
+          length-take-le (s .«sheet_count») sheet (ready .sheets-in),
+          sheets-few (s .n) (transitionWord i j) book (s .«book_count») sheet (s .«sheet_count») ready (tallyOf (s .n) old (transitionWord i j)) refl,
+        )
+
+    pub few-added : sessionAnswer s book sheet i j .added ≤ 16777216
+    unfolding tallyOf
+    few-added =
+        omega (
+          arith,
+          ap (λ (a : Answer). a .added) answer-is,
+          added-few (s .n) (transitionWord i j) book (s .«book_count») sheet (s .«sheet_count») ready (tallyOf (s .n) old (transitionWord i j)) refl,
+        )
+
+    -- what goes and what comes give the new count
+    pub counts-balanced : sessionAnswer s book sheet i j .«sheet_count» + sessionAnswer s book sheet i j .struck ≡ s .«sheet_count» + sessionAnswer s book sheet i j .added
+    unfolding tallyOf
+    counts-balanced =
+        omega (
+          arith,
+          ap (λ (a : Answer). a .«sheet_count») answer-is,
+          ap (λ (a : Answer). a .struck) answer-is,
+          ap (λ (a : Answer). a .added) answer-is,
+          count-is (s .n) (transitionWord i j) book (s .«book_count») sheet (s .«sheet_count») ready (tallyOf (s .n) old (transitionWord i j)) refl,
+        )

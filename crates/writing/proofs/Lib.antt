@@ -1,0 +1,5 @@
+pub mod PutLaws
+pub mod TextLaws
+pub mod WriteLaws
+pub mod OneText
+pub mod Examples

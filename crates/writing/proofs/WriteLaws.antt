@@ -1,0 +1,108 @@
+-- Laws of the codes of writing, of what it leaves, and that its contract fixes both.
+use Prim.Native.Nat.{ℕ, zero, suc, _+_, _*_, _/_, _-_, _≤_, _<_}
+use mathlib.Core.Path.{_≡_, refl, sym, _∙_, ap}
+use mathlib.Core.List.{List}
+use mathlib.Core.Bool.{Bool, true, false, not}
+use native.Mathlib.Omega.{arith}
+use lib.Dec.{leb, ltb}
+use lib.ListN.{length, take}
+use lib.Seq.{length-take-le}
+use borrow.Author.Tests.{lt-ltb, le-ltb, ltb-true, ltb-false, leb-true, leb-false, lt-leb}
+use Rattle.table.proofs.Basics.{and-r}
+use Rattle.answers.specs.Answers.{refuse, wordsIf}
+use Rattle.fields.specs.Decimals.{decimal}
+use Rattle.panel.specs.Masks.{panelSize}
+use Rattle.prime.specs.Sheets.{goodSheet}
+use Rattle.writing.specs.SheetText.{sheetText}
+use Rattle.writing.specs.Writing.{Put, textLength, writeCode, withLength, lengthIf, Writes}
+use Rattle.writing.specs.declared.WriteAnswer.{WriteAnswer}
+use Rattle.writing.proofs.TextLaws.{sheet-length, rows-fit}
+
+-- ---- whether the text fits, over the number of digits of its two numbers
+
+module _ (n count room a b : ℕ) (ha : a ≡ length (decimal n)) (hb : b ≡ length (decimal count)) where
+  pub fits-not : room < 23 + 2 * a + b → false ≡ leb (textLength n count) room
+  unfolding textLength
+  fits-not h = sym (lt-leb _ room (omega arith))
+
+  pub fits-rows : 23 + 2 * a + b ≤ room → leb count ((room - (23 + 2 * a + b)) / (2 * n + 2)) ≡ leb (textLength n count) room
+  unfolding textLength
+  fits-rows h = rw (← ha, ← hb) (rows-fit (23 + 2 * a + b) count (2 * n + 2) room (omega arith) h)
+
+-- ---- the codes in order
+
+pub size-small : (n : ℕ) → panelSize n ≡ true → n ≤ 10
+unfolding panelSize
+size-small n h = omega (arith, ltb-true n 11 (and-r (ltb 0 n) (ltb n 11) h))
+
+module _ (n : ℕ) (sheet : List ℕ) (count room : ℕ) where
+  pub code-2 : panelSize n ≡ false → 2 ≡ writeCode n sheet count room
+  unfolding writeCode
+  code-2 p = rw p
+
+  module _ (p : panelSize n ≡ true) where
+    pub code-3 : length sheet < count → 3 ≡ writeCode n sheet count room
+    unfolding writeCode
+    code-3 c = rw (p, lt-ltb (length sheet) count c)
+
+    module _ (c : count ≤ length sheet) where
+      pub code-5 : goodSheet n (take count sheet) ≡ false → 5 ≡ writeCode n sheet count room
+      unfolding writeCode
+      code-5 g = rw (p, le-ltb (length sheet) count c, g)
+
+      module _ (g : goodSheet n (take count sheet) ≡ true) where
+        long : length (sheetText n (take count sheet)) ≡ textLength n count
+        long = sheet-length n (take count sheet) ∙ ap (textLength n) (length-take-le count sheet c)
+
+        pub code-12 : leb (textLength n count) room ≡ false → 12 ≡ writeCode n sheet count room
+        unfolding writeCode
+        code-12 f = rw (p, le-ltb (length sheet) count c, g, long, lt-ltb room (textLength n count) (leb-false _ room f))
+
+        pub code-0 : leb (textLength n count) room ≡ true → 0 ≡ writeCode n sheet count room
+        unfolding writeCode
+        code-0 f = rw (p, le-ltb (length sheet) count c, g, long, le-ltb room (textLength n count) (leb-true _ room f))
+
+-- code 0: the count is in the slice, and the text in the room
+pub record Ready (n : ℕ) (sheet : List ℕ) (count room : ℕ) : Type 0 where
+  pub counted : count ≤ length sheet
+  pub fits : length (sheetText n (take count sheet)) ≤ room
+
+pub ready : (n : ℕ) (sheet : List ℕ) (count room : ℕ) → writeCode n sheet count room ≡ 0 → Ready n sheet count room
+unfolding writeCode
+ready n sheet count room h =
+    go (panelSize n) (ltb (length sheet) count) refl (goodSheet n (take count sheet)) (ltb room (length (sheetText n (take count sheet)))) refl h
+  where
+    go : (p c : Bool) → ltb (length sheet) count ≡ c → (g f : Bool) → ltb room (length (sheetText n (take count sheet))) ≡ f
+        → refuse (not p) 2 (refuse c 3 (refuse (not g) 5 (refuse f 12 0))) ≡ 0 → Ready n sheet count room
+    go false c hc g f hf z = absurd (omega arith)
+    go true true hc g f hf z = absurd (omega arith)
+    go true false hc false f hf z = absurd (omega arith)
+    go true false hc true true hf z = absurd (omega arith)
+    go true false hc true false hf z = record { counted = ltb-false (length sheet) count hc; fits = ltb-false room _ hf }
+
+-- ---- what `write_sheet` leaves, over what its calls answer
+
+length-refused : (code len : ℕ) → (code ≡ 0 → ⊥) → lengthIf code len ≡ 0
+length-refused zero len z = absurd (z refl)
+length-refused (suc code) len z = refl
+
+bytes-refused : (code : ℕ) (xs ys : List ℕ) → (code ≡ 0 → ⊥) → wordsIf code xs ys ≡ ys
+bytes-refused zero xs ys z = absurd (z refl)
+bytes-refused (suc code) xs ys z = refl
+
+module _ (n : ℕ) (sheet : List ℕ) (count : ℕ) (before : List ℕ) (code : ℕ) (h : code ≡ writeCode n sheet count (length before)) (r : WriteAnswer) where
+  pub write-refused : (code ≡ 0 → ⊥) → r ≡ withLength code 0 → Writes n sheet count before before r
+  write-refused z a =
+      record {
+        answer = rw (← h) (a ∙ ap (λ (l : ℕ). withLength code l) (sym (length-refused code _ z)));
+        bytes = rw (← h) (sym (bytes-refused code _ before z));
+      }
+
+  pub write-done : (after : List ℕ) (e : ℕ) → code ≡ 0 → Put before 0 (sheetText n (take count sheet)) after e → r ≡ withLength 0 e → Writes n sheet count before after r
+  write-done after e z p a =
+      let l : e ≡ length (sheetText n (take count sheet)) = omega (arith, p .behind) in
+      record { answer = rw (← h, z) (a ∙ ap (λ (k : ℕ). withLength 0 k) l); bytes = rw (← h, z) (p .bytes) }
+
+-- any two results that satisfy the contract of `write_sheet` are equal
+pub write-unique : {n count : ℕ} {sheet before x y : List ℕ} {r s : WriteAnswer} → Writes n sheet count before x r → Writes n sheet count before y s → (r ≡ s) × (x ≡ y)
+write-unique a b = (a .answer ∙ sym (b .answer), a .bytes ∙ sym (b .bytes))

@@ -1,0 +1,55 @@
+-- `writing::write_code` meets its contract.
+use Rattle.writing.proofs.WriteLaws.{size-small, code-2, code-3, code-5, code-12, code-0}
+use borrow.Author.Needs.{needs}
+use borrow.Author.Tests.{not-true, not-false}
+use lib.Seq.{length-take-le}
+use mathlib.Core.Path.{sym, _∙_}
+use native.Mathlib.Omega.{arith}
+use Rattle.writing.proofs.write_code.Statement.{statement}
+use Rattle.writing.proofs.write_code.Tie as tie
+
+returns : tie.Need-returns
+returns c = code-2 _ _ _ _ (sym (c .before .is-panel-size .ensures) ∙ not-true (c .before .is-panel-size .result) (c .if1 .taken))
+
+returns-2 : tie.Need-returns-2
+returns-2 c = code-3 _ _ _ _ (sym (c .before .before .is-panel-size .ensures) ∙ not-false (c .before .before .is-panel-size .result) (c .before .if1 .left)) (c .if2 .taken)
+
+slice-aggregate-is-good-sheet : tie.Need-slice-aggregate-is-good-sheet
+slice-aggregate-is-good-sheet c = sym (length-take-le _ _ (c .before .if2 .left))
+
+is-good-sheet-requires : tie.Need-is-good-sheet-requires
+is-good-sheet-requires c κs = size-small _ (sym (c .before .before .before .is-panel-size .ensures) ∙ not-false (c .before .before .before .is-panel-size .result) (c .before .before .if1 .left))
+
+returns-3 : tie.Need-returns-3
+returns-3 c =
+    let the-is-panel-size = c .before .before .before .before .before .is-panel-size in
+    code-5 _ _ _ _ (sym (the-is-panel-size .ensures) ∙ not-false (the-is-panel-size .result) (c .before .before .before .before .if1 .left)) (c .before .before .before .if2 .left) (sym (c .before .is-good-sheet .ensures) ∙ not-true (c .before .is-good-sheet .result) (c .if3 .taken))
+
+text-fits-requires : tie.Need-text-fits-requires
+text-fits-requires c κs =
+    let the-is-panel-size = c .before .before .before .before .before .is-panel-size in
+    (size-small _ (sym (the-is-panel-size .ensures) ∙ not-false (the-is-panel-size .result) (c .before .before .before .before .if1 .left)), omega arith)
+
+returns-4 : tie.Need-returns-4
+returns-4 c =
+    let the-is-panel-size = c .before .before .before .before .before .before .before .is-panel-size in
+    code-12 _ _ _ _ (sym (the-is-panel-size .ensures) ∙ not-false (the-is-panel-size .result) (c .before .before .before .before .before .before .if1 .left)) (c .before .before .before .before .before .if2 .left) (sym (c .before .before .before .is-good-sheet .ensures) ∙ not-false (c .before .before .before .is-good-sheet .result) (c .before .before .if3 .left)) (sym (c .before .text-fits .ensures) ∙ not-true (c .before .text-fits .result) (c .if4 .taken))
+
+returns-5 : tie.Need-returns-5
+returns-5 c =
+    let the-is-panel-size = c .before .before .before .before .before .before .before .is-panel-size in
+    code-0 _ _ _ _ (sym (the-is-panel-size .ensures) ∙ not-false (the-is-panel-size .result) (c .before .before .before .before .before .before .if1 .left)) (c .before .before .before .before .before .if2 .left) (sym (c .before .before .before .is-good-sheet .ensures) ∙ not-false (c .before .before .before .is-good-sheet .result) (c .before .before .if3 .left)) (sym (c .before .text-fits .ensures) ∙ not-false (c .before .text-fits .result) (c .if4 .left))
+
+pub write-code-spec : {M : Type 1} → statement M
+write-code-spec =
+    tie.close
+    (tie.spec
+    (λ c κs. search needs)
+    returns
+    returns-2
+    slice-aggregate-is-good-sheet
+    is-good-sheet-requires
+    returns-3
+    text-fits-requires
+    returns-4
+    returns-5)

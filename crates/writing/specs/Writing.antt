@@ -1,0 +1,48 @@
+-- What writing a sheet answers, and what it leaves in the lent bytes.
+use Prim.Native.Nat.{ℕ, zero, suc, _+_, _*_}
+use mathlib.Core.Path.{_≡_}
+use mathlib.Core.List.{List, _++_}
+use mathlib.Core.Bool.{not}
+use lib.Dec.{ltb}
+use lib.ListN.{length, take, drop}
+use Rattle.answers.specs.Answers.{refuse, plain, wordsIf}
+use Rattle.fields.specs.Decimals.{decimal}
+use Rattle.panel.specs.Masks.{panelSize}
+use Rattle.prime.specs.Sheets.{goodSheet}
+use Rattle.writing.specs.SheetText.{sheetText}
+use Rattle.writing.specs.declared.WriteAnswer.{WriteAnswer}
+
+-- the bytes d with s written at a place; those after it are unchanged
+unfoldable pub written : List ℕ → ℕ → List ℕ → List ℕ
+written d at s = take at d ++ (s ++ drop (at + length s) d)
+
+-- s was written at a place of d, which gave d′, and e is the place behind it
+pub record Put (d : List ℕ) (at : ℕ) (s d′ : List ℕ) (e : ℕ) : Type 0 where
+  pub bytes : d′ ≡ written d at s
+  pub behind : e ≡ at + length s
+
+-- how long the text of a sheet of k rules is, before it is written
+unfoldable pub textLength : ℕ → ℕ → ℕ
+textLength n k = 23 + 2 * length (decimal n) + length (decimal k) + k * (2 * n + 2)
+
+-- 2, 3, 5 and 12, in this order; else 0
+unfoldable pub writeCode : ℕ → List ℕ → ℕ → ℕ → ℕ
+writeCode n sheet count room =
+    refuse (not (panelSize n)) 2
+    (refuse (ltb (length sheet) count) 3
+    (refuse (not (goodSheet n (take count sheet))) 5
+    (refuse (ltb room (length (sheetText n (take count sheet)))) 12 0)))
+
+-- a code and a length; the numbers that writing has no use for are 0
+abbrev pub withLength : ℕ → ℕ → WriteAnswer
+withLength code len = record { answer = plain code 0 0 0; length = len }
+
+-- done, the length of the text; refused, 0
+abbrev pub lengthIf : ℕ → ℕ → ℕ
+lengthIf zero len = len
+lengthIf (suc code) len = 0
+
+-- what `write_sheet` ensures: done, the text stands at the start and its length is returned; refused, the length is 0 and no byte is changed
+pub record Writes (n : ℕ) (sheet : List ℕ) (count : ℕ) (before after : List ℕ) (r : WriteAnswer) : Type 0 where
+  pub answer : r ≡ withLength (writeCode n sheet count (length before)) (lengthIf (writeCode n sheet count (length before)) (length (sheetText n (take count sheet))))
+  pub bytes : after ≡ wordsIf (writeCode n sheet count (length before)) (written before 0 (sheetText n (take count sheet))) before
