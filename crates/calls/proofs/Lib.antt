@@ -1,3 +1,4 @@
 pub mod Codes
 pub mod Ends
 pub mod Applying
+pub mod Determined

@@ -1,3 +1,5 @@
 pub mod Words
 pub mod Lists
 pub mod Ends
+pub mod Examples
+pub mod Determined

@@ -1,0 +1,16 @@
+-- Any two results that satisfy the contract of fresh, or of take, are equal.
+use mathlib.Core.Path.{_≡_, sym, _∙_}
+use mathlib.Core.Bool.{Bool}
+use mathlib.Core.List.{List}
+use Prim.Native.Nat.{ℕ}
+use Rattle.answers.specs.declared.Answer.{Answer}
+use Rattle.calls.specs.Fresh.{Fresh}
+use Rattle.calls.specs.Take.{Taken}
+
+pub fresh-determined : (n : ℕ) (sheet s s′ : List ℕ) (r r′ : Answer) → Fresh n sheet s r → Fresh n sheet s′ r′ → (r ≡ r′) × (s ≡ s′)
+fresh-determined n sheet s s′ r r′ x y = (x .answer ∙ sym (y .answer), x .words ∙ sym (y .words))
+
+pub take-determined : (spoilt : Bool) (n : ℕ) (book : List ℕ) (books : ℕ) (sheet : List ℕ) (sheets i j : ℕ) (b b′ s s′ : List ℕ) (r r′ : Answer)
+    → Taken spoilt n book books sheet sheets i j b s r → Taken spoilt n book books sheet sheets i j b′ s′ r′ → (r ≡ r′) × (b ≡ b′) × (s ≡ s′)
+take-determined spoilt n book books sheet sheets i j b b′ s s′ r r′ x y =
+    (x .answer ∙ sym (y .answer), x .book-words ∙ sym (y .book-words), x .sheet-words ∙ sym (y .sheet-words))
