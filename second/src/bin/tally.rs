@@ -1,0 +1,42 @@
+//! `tally REQUESTS ANSWERS`: how many cases of each call and code two files hold. Fails if a code
+//! that can occur in a call was never reached there, or one that cannot was.
+
+use std::fs::File;
+use std::io::{self, BufReader};
+use std::process::ExitCode;
+
+use second::tally::Tally;
+
+fn main() -> ExitCode {
+    let arguments: Vec<String> = std::env::args().skip(1).collect();
+    let [requests, answers] = &arguments[..] else {
+        eprintln!("usage: tally REQUESTS ANSWERS");
+        return ExitCode::from(2);
+    };
+    match tally(requests, answers) {
+        Ok(tally) => report(&tally),
+        Err(error) => {
+            eprintln!("tally: {error}");
+            ExitCode::FAILURE
+        }
+    }
+}
+
+fn tally(requests: &str, answers: &str) -> io::Result<Tally> {
+    let mut requests = BufReader::with_capacity(1 << 16, File::open(requests)?);
+    let mut answers = BufReader::with_capacity(1 << 16, File::open(answers)?);
+    Tally::of_streams(&mut requests, &mut answers)
+}
+
+fn report(tally: &Tally) -> ExitCode {
+    print!("{}", tally.table());
+    let failures = tally.failures();
+    for failure in &failures {
+        println!("FAILED {failure}");
+    }
+    if failures.is_empty() {
+        ExitCode::SUCCESS
+    } else {
+        ExitCode::FAILURE
+    }
+}

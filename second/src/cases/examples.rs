@@ -1,0 +1,121 @@
+//! The examples of document 01 as requests.
+
+use super::requests::made;
+use crate::desk::{
+    Request, APPLY, FRESH, JOIN, LEARN, READ, RUN, SESSION_START, SESSION_TAKE, TAKE, WRITE,
+};
+use crate::text::{MOST_INPUT, PROGRAM_BYTES, PROGRAM_WORDS};
+
+const RECORDING: &str = ".i 3\n.o 3\n.type fr\n111 110\n110 100\n100 000\n000 001\n001 001\n\
+                         011 101\n101 010\n010 101\n.e\n";
+
+/// What the output slices hold before a call.
+const RUBBISH: u64 = 77;
+
+/// K1 to K12, the other examples, the recording, and the text's edges.
+pub fn examples() -> Vec<Request> {
+    [bench_examples(), size_examples(), text_examples()].concat()
+}
+
+fn rubbish(room: usize) -> Vec<u64> {
+    vec![RUBBISH; room]
+}
+
+fn word(state: u64, successor: u64) -> u64 {
+    state * 1_024 + successor
+}
+
+fn learn(n: u64, words: &[u64], book_room: usize, sheet_room: usize) -> Request {
+    made(LEARN, vec![n], vec![words.to_vec(), rubbish(book_room), rubbish(sheet_room)])
+}
+
+fn bench_examples() -> Vec<Request> {
+    let panel = [(7, 3), (3, 1), (1, 0), (0, 4), (4, 4), (6, 5), (5, 2), (2, 5)];
+    let recording: Vec<u64> = panel.iter().map(|(i, j)| word(*i, *j)).collect();
+    let k8 = [word(7, 3), word(3, 1)];
+    let k9 = vec![2048, 1053696, 2097153];
+    vec![
+        learn(1, &[], 1, 3),
+        learn(1, &[word(0, 0)], 2, 3),
+        learn(1, &[word(0, 0), word(1, 0)], 2, 1),
+        made(SESSION_TAKE, vec![1, 0, 1, 0, 0, 0, 0], vec![rubbish(2), vec![0]]),
+        made(SESSION_TAKE, vec![1, 1, 1, 1, 1, 1, 0], vec![vec![0, RUBBISH], vec![1024]]),
+        learn(1, &[word(0, 0), word(0, 1)], 2, 3),
+        learn(1, &[word(0, 1), word(0, 1)], 1, 1),
+        learn(2, &[word(3, 0)], 1, 4),
+        learn(2, &[word(3, 0)], 1, 3),
+        learn(3, &[word(7, 3)], 2, 8),
+        learn(3, &k8, 2, 6),
+        learn(3, &k8, 2, 5),
+        made(
+            TAKE,
+            vec![3, 3, 1, 1, 5],
+            vec![vec![word(7, 3), RUBBISH], vec![0, 1048576, 2097153, 2097154, 2097156, RUBBISH]],
+        ),
+        learn(3, &recording, 8, 40),
+        made(WRITE, vec![3, 3], vec![k9.clone(), rubbish(60)]),
+        made(APPLY, vec![3, 5, 3], vec![k9]),
+        made(
+            JOIN,
+            vec![1, 1, 1, 1, 1],
+            vec![vec![0], vec![1024], vec![1024], vec![1], rubbish(3), rubbish(2)],
+        ),
+        made(APPLY, vec![1, 0, 2], vec![vec![0, 1024]]),
+        made(TAKE, vec![1, 0, 0, 0, 2], vec![rubbish(2), vec![0, 1024]]),
+    ]
+}
+
+fn size_examples() -> Vec<Request> {
+    let mut requests = Vec::new();
+    for n in [0, 1, 10, 11, u64::from(u32::MAX)] {
+        let empty = Vec::new;
+        requests.extend([
+            made(FRESH, vec![n], vec![rubbish(12)]),
+            made(SESSION_START, vec![n], vec![rubbish(12)]),
+            learn(n, &[], 2, 12),
+            made(TAKE, vec![n, 0, 0, 0, 0], vec![rubbish(2), rubbish(2)]),
+            made(SESSION_TAKE, vec![n, 0, 0, n, 0, 0, 0], vec![rubbish(2), rubbish(2)]),
+            made(
+                JOIN,
+                vec![n, 0, 0, 0, 0],
+                vec![empty(), empty(), empty(), empty(), rubbish(2), rubbish(2)],
+            ),
+            made(APPLY, vec![n, 0, 0], vec![empty()]),
+            made(WRITE, vec![n, 0], vec![empty(), rubbish(40)]),
+        ]);
+    }
+    requests.extend([
+        made(APPLY, vec![1, 2, 0], vec![rubbish(1)]),
+        made(TAKE, vec![1, 2, 0, 0, 0], vec![rubbish(1), rubbish(1)]),
+        made(TAKE, vec![1, 0, 2, 0, 0], vec![rubbish(1), rubbish(1)]),
+        learn(1, &[0, word(2, 0)], 2, 2),
+    ]);
+    requests
+}
+
+fn text_examples() -> Vec<Request> {
+    let long = "#".repeat(MOST_INPUT - RECORDING.len());
+    let texts = [
+        RECORDING.to_string(),
+        String::new(),
+        "\n".to_string(),
+        format!("{RECORDING}{long}"),
+        format!("{RECORDING}{long}#"),
+        ".i 2\n.p 0\n.o 2\n01 10\n.e\n".to_string(),
+        ".i 2\n.p 0\n.o 2\n01 10\n".to_string(),
+        ".i 2\n.p 0\n.o 2\n01 10\nx\n.e\n".to_string(),
+        ".i 2\n.o 2\n-- 01\n.e".to_string(),
+        ".i 2\n.o 3\n.e".to_string(),
+        ".e".to_string(),
+        ".i 10\n.o 10\n---------- 1111111111\n---------- 1111111111\n.e\n".to_string(),
+    ];
+    let mut requests = Vec::new();
+    for text in texts {
+        let bytes: Vec<u64> = text.bytes().map(u64::from).collect();
+        requests.push(made(READ, vec![], vec![bytes.clone(), rubbish(10)]));
+        let words = || rubbish(PROGRAM_WORDS);
+        let slices = vec![bytes, words(), words(), words(), rubbish(PROGRAM_BYTES)];
+        requests.push(made(RUN, vec![], slices));
+    }
+    requests
+}

@@ -1,0 +1,18 @@
+//! The second program: document 01 by definition and brute force.
+//!
+//! * `panel`: states, transitions, bodies, rules and their words
+//! * `sheets`: which bodies are consistent, permitted, smallest; good books and sheets
+//! * `calls`: fresh, take, learn, join, apply on lent slices
+//! * `session`: a bench session, by value
+//! * `text`: recording text in, sheet text out, and the program itself
+//! * `desk`: requests and answers as 64-bit words (docs/DESK.md)
+//! * `cases`: seeded random requests, `tally`: how many of each call and code
+
+pub mod calls;
+pub mod cases;
+pub mod desk;
+pub mod panel;
+pub mod session;
+pub mod sheets;
+pub mod tally;
+pub mod text;

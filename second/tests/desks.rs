@@ -1,0 +1,152 @@
+//! Requests and answers as bytes, the seeded cases, and the tally.
+
+use second::cases::{examples, requests};
+use second::desk::{bytes_of, serve, MOST_ELEMENTS};
+use second::tally::{printed_outcome, targets, Outcome, Tally};
+
+/// The answers to a stream, and whether it ended between two requests.
+fn served(stream: &[u8]) -> (Vec<u64>, bool) {
+    let mut answers = Vec::new();
+    let ended_well = serve(&mut &stream[..], &mut answers).unwrap();
+    assert_eq!(answers.len() % 8, 0);
+    let word = |bytes: &[u8]| u64::from_le_bytes(bytes.try_into().unwrap());
+    (answers.chunks(8).map(word).collect(), ended_well)
+}
+
+fn answered(words: &[u64]) -> Vec<u64> {
+    let (answers, ended_well) = served(&bytes_of(words));
+    assert!(ended_well);
+    answers
+}
+
+#[test]
+fn one_request_of_each_call() {
+    // fresh, n = 2, a sheet of three words
+    assert_eq!(answered(&[1, 2, 3, 7, 7, 7]), [0, 0, 0, 2, 0, 0, 0, 1048576, 0]);
+    // take, 0 to 0 of one relay into a fresh sheet
+    assert_eq!(answered(&[2, 1, 0, 0, 0, 1, 2, 7, 7, 1, 0]), [0, 0, 1, 1, 1, 1, 0, 0, 1024]);
+    // learn, the same word
+    assert_eq!(answered(&[3, 1, 1, 0, 1, 7, 2, 7, 7]), [0, 0, 1, 1, 1, 1, 0, 1024, 0]);
+    // join, K11
+    assert_eq!(
+        answered(&[4, 1, 1, 1, 1, 1, 1, 0, 1, 1024, 1, 1024, 1, 1, 2, 7, 7, 1, 7]),
+        [0, 0, 2, 0, 0, 0, 0, 1024, 0]
+    );
+    // apply, K10
+    assert_eq!(answered(&[5, 3, 5, 3, 3, 2048, 1053696, 2097153]), [0, 0, 0, 0, 0, 0, 2]);
+    // session start, and its take
+    assert_eq!(answered(&[6, 1, 1, 7]), [0, 0, 0, 1, 0, 0, 1, 0, 1, 0, 0, 0]);
+    assert_eq!(
+        answered(&[7, 1, 0, 1, 5, 5, 0, 0, 1, 7, 1, 0]),
+        [0, 0, 1, 1, 1, 1, 1, 1, 1, 6, 6, 0, 1024]
+    );
+    // read, a text that is empty, and a list of one word
+    assert_eq!(answered(&[8, 0, 1, 7]), [11, 1, 0, 0, 0]);
+    // write, an empty sheet of one relay, in 30 bytes
+    let text: Vec<u64> = b".i 1\n.o 1\n.type f\n.p 0\n.e\n".iter().map(|b| u64::from(*b)).collect();
+    let mut request = vec![9, 1, 0, 0, 27];
+    request.extend([63; 27]);
+    let expected = [vec![0, 0, 0, 0, 0, 0, 26], text, vec![63]].concat();
+    assert_eq!(answered(&request), expected);
+    // run, an empty text, in 16 bytes
+    let line: Vec<u64> = b"refused 11 at 1\n".iter().map(|b| u64::from(*b)).collect();
+    let mut request = vec![10, 0, 1, 7, 1, 8, 1, 9, 16];
+    request.extend([63; 16]);
+    assert_eq!(answered(&request), [vec![16, 0, 8, 9], line].concat());
+}
+
+#[test]
+fn a_malformed_request_ends_the_stream() {
+    let good = [1, 2, 0];
+    let answer = [9, 0, 0, 0, 0, 0];
+    let malformed: [&[u64]; 12] = [
+        &[0],
+        &[11],
+        &[u64::MAX],
+        &[1],
+        &[1, 2],
+        &[1, 2, 1],
+        &[1, 1 << 32, 0],
+        &[1, 2, 1, 1 << 32],
+        &[2, 1, 1 << 32, 0, 0, 0, 0, 0],
+        &[8, 1, 256, 0],
+        &[1, 2, MOST_ELEMENTS + 1],
+        &[1, 2, u64::MAX],
+    ];
+    for words in malformed {
+        let stream = [&good[..], words, &good[..]].concat();
+        // The words after it may make good what is only cut short: so it also ends the input.
+        if words.len() > 3 || words[0] > 10 || words[0] == 0 {
+            assert_eq!(served(&bytes_of(&stream)), (answer.to_vec(), false), "{words:?}");
+        }
+        let stream = [&good[..], words].concat();
+        assert_eq!(served(&bytes_of(&stream)), (answer.to_vec(), false), "{words:?}");
+    }
+    let mut half_a_word = bytes_of(&good);
+    half_a_word.push(0);
+    assert_eq!(served(&half_a_word), (answer.to_vec(), false));
+    assert_eq!(served(&[]), (vec![], true));
+    assert_eq!(answered(&[good, good].concat()), [answer, answer].concat());
+}
+
+#[test]
+fn the_longest_slice() {
+    let mut request = vec![1, 2, MOST_ELEMENTS];
+    request.extend(vec![7; MOST_ELEMENTS as usize]);
+    let answer = answered(&request);
+    assert_eq!(answer.len(), 6 + MOST_ELEMENTS as usize);
+    assert_eq!(answer[..8], [0, 0, 0, 2, 0, 0, 0, 1048576]);
+}
+
+#[test]
+fn few_seeded_cases_reach_every_code() {
+    for seed in 0..3 {
+        let cases = targets().len() as u64 + 100;
+        let (mut stream, mut answers) = (Vec::new(), Vec::new());
+        for request in requests(cases, seed) {
+            stream.extend(bytes_of(&request.words()));
+        }
+        assert!(serve(&mut &stream[..], &mut answers).unwrap());
+        let tally = Tally::of_streams(&mut &stream[..], &mut &answers[..]).unwrap();
+        assert_eq!(tally.failures(), Vec::<String>::new());
+        // The same seed gives the same stream.
+        let again: Vec<u8> =
+            requests(cases, seed).flat_map(|request| bytes_of(&request.words())).collect();
+        assert!(again == stream);
+        // An answer too few, or one byte too many, is noticed.
+        let short = &answers[..answers.len() - 8];
+        let tally = Tally::of_streams(&mut &stream[..], &mut &short[..]).unwrap();
+        assert_ne!(tally.failures(), Vec::<String>::new());
+        answers.push(0);
+        let tally = Tally::of_streams(&mut &stream[..], &mut &answers[..]).unwrap();
+        assert_eq!(tally.failures(), ["answers follow the last request's"]);
+    }
+}
+
+#[test]
+fn a_code_never_reached_or_never_possible_fails() {
+    let mut tally = Tally::default();
+    assert_eq!(tally.failures().len(), targets().len());
+    let request = requests(1, 0).next().unwrap();
+    tally.count(&request, &request.answer());
+    assert_eq!(tally.failures().len(), targets().len() - 1);
+    tally.count(&request, &[10, 0, 0, 0, 0, 0]);
+    assert!(tally.failures().contains(&"fresh: code 10 cannot occur".to_string()));
+}
+
+#[test]
+fn what_the_program_printed() {
+    assert_eq!(printed_outcome(b".i 1\n"), Some(Outcome::Code(0)));
+    assert_eq!(printed_outcome(b"refused 13 at 0\n"), Some(Outcome::Code(13)));
+    assert_eq!(printed_outcome(b""), Some(Outcome::NoRoomForLine));
+    assert_eq!(printed_outcome(b"x"), None);
+}
+
+#[test]
+fn the_examples_are_requests() {
+    let stream: Vec<u8> =
+        examples().iter().flat_map(|request| bytes_of(&request.words())).collect();
+    let (answers, ended_well) = served(&stream);
+    let words: usize = examples().iter().map(|request| request.answer_length()).sum();
+    assert_eq!((answers.len(), ended_well), (words, true));
+}
