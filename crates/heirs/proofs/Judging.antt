@@ -10,7 +10,8 @@ use lib.ListN.{length}
 use native.Mathlib.Omega.{arith}
 use lib.Pow.{pow-mono, pow-pos}
 use Rattle.table.specs.Lists.{consIf, each}
-use Rattle.table.proofs.Basics.{each-ext, each-i, false-test}
+use lib.Bits.{bitAnd}
+use Rattle.table.proofs.Basics.{and-r, each-ext, each-i, false-test}
 use Rattle.panel.specs.Masks.{on, bitIf, bitsWhere}
 use Rattle.panel.proofs.Masks.{bits-lt, bits-on, bits-ext, same-bits, find, off-zero}
 use Rattle.panel.specs.Rules.{narrows}
@@ -18,8 +19,12 @@ use Rattle.panel.specs.Transitions.{state, spared}
 use Rattle.panel.specs.Contacts.{free, candidate}
 use Rattle.panel.proofs.Judging.{both-then, both-else}
 use Rattle.table.proofs.Searching.{anyLeft, any-start}
-use Rattle.panel.proofs.Words.{single-i}
+use Rattle.panel.proofs.Words.{single-i, narrows-word}
 use Rattle.heirs.specs.Heirs.{blocked, heirBy, heirsIn, heirMask, picked}
+
+-- a rule with a bit that c lacks does not bar it
+pub bars-quick : (t c r : ℕ) → (bitAnd r c ≡ r → ⊥) → false ≡ (spared t r && narrows c r)
+bars-quick t c r f = sym (false-test (spared t r && narrows c r) (λ e. f (narrows-word c r (and-r (spared t r) (narrows c r) e))))
 
 pub blocked-start : (t c : ℕ) (part : List ℕ) → blocked t c part ≡ anyLeft (λ r. spared t r && narrows c r) part 0
 unfolding blocked
