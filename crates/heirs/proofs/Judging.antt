@@ -1,6 +1,6 @@
 -- The tests for heirs as code makes them: one law for each way through.
 use mathlib.Core.Path.{_≡_, refl, sym, ap, ap₂, _∙_}
-use mathlib.Core.Bool.{Bool, true, false, not, _&&_}
+use mathlib.Core.Bool.{Bool, true, false}
 use mathlib.Core.List.{List, [], _++_, append-nil, List·Memᴰ as Mem, List·Memᴰ·head as here, List·Memᴰ·tail as there}
 use Prim.Native.Nat.{ℕ, _+_, _^_, _≤_, _<_, zero, suc}
 use mathlib.Core.Logic.{_⊎_, inl, inr}
@@ -10,36 +10,13 @@ use lib.ListN.{length}
 use native.Mathlib.Omega.{arith}
 use lib.Pow.{pow-mono, pow-pos}
 use Rattle.table.specs.Lists.{consIf, each}
-use lib.Bits.{bitAnd}
-use Rattle.table.proofs.Basics.{and-r, each-ext, each-i, false-test}
+use Rattle.table.proofs.Basics.{each-ext, each-i, false-test}
 use Rattle.panel.specs.Masks.{on, bitIf, bitsWhere}
 use Rattle.panel.proofs.Masks.{bits-lt, bits-on, bits-ext, same-bits, find, off-zero}
-use Rattle.panel.specs.Rules.{narrows}
-use Rattle.panel.specs.Transitions.{state, spared}
-use Rattle.panel.specs.Contacts.{free, candidate}
-use Rattle.panel.proofs.Judging.{both-then, both-else}
-use Rattle.table.proofs.Searching.{anyLeft, any-start}
-use Rattle.panel.proofs.Words.{single-i, narrows-word}
-use Rattle.heirs.specs.Heirs.{blocked, heirBy, heirsIn, heirMask, picked}
-
--- a rule with a bit that c lacks does not bar it
-pub bars-quick : (t c r : ℕ) → (bitAnd r c ≡ r → ⊥) → false ≡ (spared t r && narrows c r)
-bars-quick t c r f = sym (false-test (spared t r && narrows c r) (λ e. f (narrows-word c r (and-r (spared t r) (narrows c r) e))))
-
-pub blocked-start : (t c : ℕ) (part : List ℕ) → blocked t c part ≡ anyLeft (λ r. spared t r && narrows c r) part 0
-unfolding blocked
-blocked-start t c part = any-start (λ r. spared t r && narrows c r) part
-
-module _ (t b v : ℕ) (part : List ℕ) (x : Bool) (ex : x ≡ free v b) where
-  pub heir-then : x ≡ true → (i c : ℕ) (y : Bool) → i ≡ state t → c ≡ candidate b v i → y ≡ blocked t c part → not y ≡ heirBy t b v part
-  unfolding heirBy
-  heir-then e i c y ei ec ey =
-      both-then x (free v b) (not (blocked t (candidate b v (state t)) part)) (not y) ex e
-      (ap not (ey ∙ ap (λ (k : ℕ). blocked t k part) (ec ∙ ap (candidate b v) ei)))
-
-  pub heir-else : x ≡ false → false ≡ heirBy t b v part
-  unfolding heirBy
-  heir-else e = both-else x (free v b) (not (blocked t (candidate b v (state t)) part)) ex e
+use Rattle.panel.specs.Transitions.{state}
+use Rattle.panel.specs.Contacts.{candidate}
+use Rattle.panel.proofs.Words.{single-i}
+use Rattle.heirs.specs.Heirs.{heirBy, heirsIn, heirMask, picked}
 
 -- ---- the mask, relay by relay
 

@@ -3,3 +3,4 @@ pub mod Counts
 pub mod Steps
 pub mod InPlace
 pub mod Judging
+pub mod Nearness

@@ -2,12 +2,13 @@
 use Prim.Native.Nat.{ℕ}
 use mathlib.Core.Bool.{Bool, true, false, not, _&&_}
 use mathlib.Core.List.{List, [], _∷_, _++_}
+use lib.Bits.{bitOr}
 use lib.ListN.{length}
 use Rattle.table.specs.Lists.{any, consIf, filter, each, remove, insertAll}
 use Rattle.panel.specs.Masks.{on, bitsWhere}
 use Rattle.panel.specs.Rules.{narrows}
 use Rattle.panel.specs.Transitions.{state, spared}
-use Rattle.panel.specs.Contacts.{free, candidate}
+use Rattle.panel.specs.Contacts.{free, candidate, near}
 use Rattle.prime.specs.Sheets.{permits}
 
 -- the heirs of the hit rule b: its candidates that narrow no kept rule
@@ -44,6 +45,11 @@ heirsIn n t b tab = each n (λ v. consIf (heirBy t b v tab) (candidate b v (stat
 -- the relays whose candidates of b are heirs, as far as the table tells
 unfoldable pub heirMask : ℕ → ℕ → ℕ → List ℕ → ℕ
 heirMask n t b tab = bitsWhere n (λ v. heirBy t b v tab)
+
+-- the contacts, as bits of the word, that single rules of a list have beyond b, added to those seen before
+unfoldable pub nearAll : ℕ → ℕ → List ℕ → ℕ
+nearAll b seen [] = seen
+nearAll b seen (r ∷ part) = nearAll b (bitOr seen (near b r)) part
 
 -- the candidates of b, against the state i, on the relays of a mask
 unfoldable pub picked : ℕ → ℕ → ℕ → ℕ → List ℕ

@@ -1,48 +1,33 @@
-// Whether a candidate is an heir: tests on a part of a sheet.
+// Which candidates of a hit rule are heirs: one pass over a part of a sheet.
 ghost use mathlib.Core.Path.{_≡_};
-ghost use mathlib.Core.Bool.{_&&_};
+ghost use mathlib.Core.Bool.{true, false, not, _&&_};
 ghost use Prim.Native.Nat.{_<_, _≤_};
-ghost use Rattle.panel.specs.Masks.{bitIf};
-ghost use Rattle.panel.specs.Rules.{narrows};
+ghost use Rattle.panel.specs.Masks.{on, bitIf};
+ghost use Rattle.panel.specs.Rules.{validRule};
 ghost use Rattle.panel.specs.Transitions.{spared};
-ghost use Rattle.heirs.specs.Heirs.{blocked, heirBy, heirMask};
+ghost use Rattle.panel.specs.Contacts.{free, contactPlace};
+ghost use Rattle.heirs.specs.Heirs.{heirMask, nearAll};
 
-// The rule r is spared, and c narrows it. Most rules fail one quick test on their words.
-fn bars(t: u32, c: u32, r: u32) -> bool
-    ensures { λ b. ⌜ b ≡ (spared t r && narrows c r) ⌝ }
+// The contacts that single rules of the part have beyond b, as bits of the word: one pass, no branch that depends on more than one rule.
+fn near_part(part: &[u32], b: u32) -> u32
+    ensures { λ r. ⌜ r ≡ nearAll b 0 (now (part .entry)) ⌝ }
 {
-    if r & c != r {
-        return false;
-    }
-    if panel::is_spared(t, r) {
-        panel::narrows_rule(c, r)
-    } else {
-        false
-    }
-}
-
-// Some rule of the part that t spares is one that c narrows.
-pub fn is_blocked(part: &[u32], t: u32, c: u32) -> bool
-    ensures { λ r. ⌜ r ≡ blocked t c (now (part .entry)) ⌝ }
-{
+    let mut seen: u32 = 0;
     let mut k: usize = 0;
     while k < part.len() {
-        if bars(t, c, part[k]) {
-            return true;
-        }
+        seen = seen | panel::near_rule(b, part[k]);
         k += 1;
     }
-    false
+    seen
 }
 
-// The candidate of b on the relay v is an heir, as far as the part tells.
-pub fn is_heir(part: &[u32], t: u32, b: u32, v: u32) -> bool
-    requires { ⌜ (v < 10) × (b < 16777216) ⌝ }
-    ensures { λ r. ⌜ r ≡ heirBy t b v (now (part .entry)) ⌝ }
+// The relay v is free in b, and no rule bars the candidate there: none has its contact alone beyond b.
+fn is_heir(seen: u32, b: u32, v: u32, i: u32) -> bool
+    requires { ⌜ v < 10 ⌝ }
+    ensures { λ r. ⌜ r ≡ (free v b && not (on (contactPlace v i) seen)) ⌝ }
 {
     if panel::is_free(v, b) {
-        let c = panel::candidate_on(b, v, panel::state_of(t));
-        !is_blocked(part, t, c)
+        !panel::is_on(panel::contact_place(v, i), seen)
     } else {
         false
     }
@@ -59,15 +44,17 @@ fn bit_if(x: bool, v: u32) -> u32
     0
 }
 
-// The relays below n whose candidates of b are heirs, as far as the part tells.
+// The relays below n whose candidates of the hit rule b are heirs, as far as the part tells.
 pub fn heir_mask(part: &[u32], n: u32, t: u32, b: u32) -> u32
-    requires { ⌜ (n ≤ 10) × (b < 16777216) ⌝ }
+    requires { ⌜ (n ≤ 10) × (validRule n b ≡ true) × (spared t b ≡ false) ⌝ }
     ensures { λ r. ⌜ r ≡ heirMask n t b (now (part .entry)) ⌝ }
 {
+    let seen = near_part(part, b);
+    let i = panel::state_of(t);
     let mut mask: u32 = 0;
     let mut v: u32 = 0;
     while v < n {
-        mask += bit_if(is_heir(part, t, b, v), v);
+        mask += bit_if(is_heir(seen, b, v, i), v);
         v += 1;
     }
     mask

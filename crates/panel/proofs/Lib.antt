@@ -3,3 +3,4 @@ pub mod Words
 pub mod Candidates
 pub mod Judging
 pub mod Transitions
+pub mod Near

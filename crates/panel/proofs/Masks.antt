@@ -38,7 +38,7 @@ pub bit-on : (v x : ℕ) → bit v x ≡ 1 → on v x ≡ true
 unfolding on bit
 bit-on v x e = eq-eqb (x / 2 ^ v % 2) 1 e
 
-bit-lt : (v x : ℕ) → bit v x < 2
+pub bit-lt : (v x : ℕ) → bit v x < 2
 unfolding bit
 bit-lt v x = mod-lt (x / 2 ^ v) (zero-lt-suc 1)
 

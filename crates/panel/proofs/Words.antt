@@ -5,7 +5,7 @@ use mathlib.Core.List.{[], List·Memᴰ as Mem, List·Memᴰ·head as here, List
 use Prim.Native.Nat.{ℕ, _+_, _*_, _^_, _≤_, _<_}
 use native.Mathlib.Nat.{lt-of-lt-of-le}
 use native.Mathlib.Omega.{arith}
-use lib.Bits.{bitAnd, and-block, and-self}
+use lib.Bits.{bitAnd, and-block, and-lt, and-self}
 use lib.Pow.{pow-mono}
 use lib.Dec.{eqb, ltb}
 use borrow.Author.Tests.{eqb-true, eq-eqb, ltb-true, lt-ltb}
@@ -14,7 +14,7 @@ use Rattle.panel.specs.Masks.{allOff}
 use Rattle.panel.specs.Rules.{contains, ruleWord, head, mustOn, mustOff, validRule, covers, narrows, rules}
 use Rattle.table.proofs.Basics.{and-l, and-r, and-i, each-e, each-i}
 use Rattle.table.proofs.Increasing.{each-increasing}
-use Rattle.panel.proofs.Masks.{within, apart, within-refl, within-trans, within-antisym, within-le, within-apart, allOn-within, allOff-apart, within-eq}
+use Rattle.panel.proofs.Masks.{within, apart, within-refl, within-trans, within-antisym, within-le, within-apart, allOn-within, allOff-apart, within-eq, eq-within}
 
 -- ---- the fields of a word
 
@@ -161,17 +161,37 @@ as-blocks : (w : ℕ) → w ≡ (head w * 1024 + mustOn w) * 1024 + mustOff w
 unfolding head mustOn mustOff
 as-blocks w = omega arith
 
+-- the bits that two words share, field by field
+shared : (r w : ℕ) → bitAnd r w ≡ (bitAnd (head r) (head w) * 1024 + bitAnd (mustOn r) (mustOn w)) * 1024 + bitAnd (mustOff r) (mustOff w)
+shared r w =
+    ap₂ bitAnd (as-blocks r) (as-blocks w)
+    ∙ and-block 10 (head r * 1024 + mustOn r) (head w * 1024 + mustOn w) (mustOff r) (mustOff w) (mustOff-small r) (mustOff-small w)
+    ∙ ap (λ (a : ℕ). a * 1024 + bitAnd (mustOff r) (mustOff w))
+    (and-block 10 (head r) (head w) (mustOn r) (mustOn w) (mustOn-small r) (mustOn-small w))
+
+one-head-shared : (r w : ℕ) → head w ≡ head r → bitAnd (head r) (head w) ≡ head r
+one-head-shared r w e = ap (bitAnd (head r)) e ∙ and-self (head r)
+
 -- the bits of a rule's word are on in the word of a rule that narrows it: the quick test of code, one `&` and one compare
 pub narrows-word : (w r : ℕ) → narrows w r ≡ true → bitAnd r w ≡ r
 narrows-word w r p =
     let x = narrows-e w r p in
-    ap₂ bitAnd (as-blocks r) (as-blocks w)
-    ∙ and-block 10 (head r * 1024 + mustOn r) (head w * 1024 + mustOn w) (mustOff r) (mustOff w) (mustOff-small r) (mustOff-small w)
-    ∙ ap₂ (λ (a b : ℕ). a * 1024 + b)
-    (and-block 10 (head r) (head w) (mustOn r) (mustOn w) (mustOn-small r) (mustOn-small w)
-    ∙ ap₂ (λ (a b : ℕ). a * 1024 + b) (ap (bitAnd (head r)) (x .one-head) ∙ and-self (head r)) (within-eq (mustOn r) (mustOn w) (x .mustOn-in)))
-    (within-eq (mustOff r) (mustOff w) (x .mustOff-in))
-    ∙ sym (as-blocks r)
+    let h = one-head-shared r w (x .one-head) in
+    omega (arith, shared r w, h, within-eq (mustOn r) (mustOn w) (x .mustOn-in), within-eq (mustOff r) (mustOff w) (x .mustOff-in), as-blocks r)
+
+-- and back, for rules of one head
+pub word-narrows : (w r : ℕ) → head w ≡ head r → bitAnd r w ≡ r → narrows w r ≡ true
+word-narrows w r e q =
+    let h = one-head-shared r w e in
+    let s = shared r w in
+    let f = as-blocks r in
+    let bp = and-lt 10 (mustOn r) (mustOn w) (mustOn-small r) (mustOn-small w) in
+    let bm = and-lt 10 (mustOff r) (mustOff w) (mustOff-small r) (mustOff-small w) in
+    narrows-i w r (record {
+      one-head = e;
+      mustOn-in = eq-within (mustOn r) (mustOn w) (omega (arith, h, s, q, f, bp, bm, mustOn-small r, mustOff-small r));
+      mustOff-in = eq-within (mustOff r) (mustOff w) (omega (arith, h, s, q, f, bp, bm, mustOn-small r, mustOff-small r));
+    })
 
 -- a wider rule covers what a narrower one covers
 pub narrows-covers : (w r i : ℕ) → narrows w r ≡ true → covers w i ≡ true → covers r i ≡ true

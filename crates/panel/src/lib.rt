@@ -4,7 +4,7 @@ ghost use Prim.Native.Nat.{_^_, _<_, _≤_};
 ghost use Rattle.panel.specs.Masks.{panelSize, on};
 ghost use Rattle.panel.specs.Rules.{ruleWord, head, mustOn, mustOff, validRule, covers, contains, narrows};
 ghost use Rattle.panel.specs.Transitions.{transitionWord, state, next, observed, validTransition, rests, spared};
-ghost use Rattle.panel.specs.Contacts.{free, candidate};
+ghost use Rattle.panel.specs.Contacts.{free, candidate, near, contactPlace};
 
 // A panel has 1 to 10 relays.
 pub fn is_panel_size(n: u32) -> bool
@@ -182,4 +182,32 @@ pub fn candidate_on(w: u32, v: u32, i: u32) -> u32
         return w + bit;
     }
     w + bit * 1024
+}
+
+// The contact that the rule r has beyond the rule b, as its bit in the word, where it is the only one; else 0.
+pub fn near_rule(b: u32, r: u32) -> u32
+    ensures { λ k. ⌜ k ≡ near b r ⌝ }
+{
+    if head_of(r) != head_of(b) {
+        return 0;
+    }
+    let d = r - (r & b);
+    if d == 0 {
+        return 0;
+    }
+    if d & (d - 1) != 0 {
+        return 0;
+    }
+    d
+}
+
+// Which bit of a rule's word is the contact on the relay v that disagrees with the state i.
+pub fn contact_place(v: u32, i: u32) -> u32
+    requires { ⌜ v < 10 ⌝ }
+    ensures { λ r. ⌜ r ≡ contactPlace v i ⌝ }
+{
+    if is_on(v, i) {
+        return v;
+    }
+    v + 10
 }

@@ -1,6 +1,6 @@
 // The sheet in its lent slice: take counted before anything is written, and done in place.
 ghost use mathlib.Core.Path.{_≡_};
-ghost use mathlib.Core.Bool.{true, _||_};
+ghost use mathlib.Core.Bool.{true, false, _||_};
 ghost use lib.Dec.{eqb};
 ghost use Prim.Native.Nat.{_<_, _≤_, _+_};
 ghost use lib.ListN.{length, take, drop, getD};
@@ -9,7 +9,7 @@ ghost use Rattle.table.specs.Lists.{increasing, insertAll, remove, pick, insert
 ghost use Rattle.table.specs.Surgery.{Holds};
 ghost use Rattle.panel.specs.Masks.{on};
 ghost use Rattle.panel.specs.Rules.{validRule};
-ghost use Rattle.panel.specs.Transitions.{state};
+ghost use Rattle.panel.specs.Transitions.{state, spared};
 ghost use Rattle.panel.specs.Contacts.{candidate};
 ghost use Rattle.prime.specs.Sheets.{goodSheet, freshSheet, takeSheet};
 ghost use Rattle.heirs.specs.Heirs.{heirMask, picked};
@@ -21,9 +21,9 @@ pub struct Tally {
     pub added: usize,
 }
 
-// The relays whose candidates of b are heirs. Only the stretch of its head is looked at.
+// The relays whose candidates of the hit rule b are heirs. Only the stretch of its head is looked at.
 pub fn heirs_of(sheet: &[u32], n: u32, t: u32, b: u32) -> u32
-    requires { ⌜ (n ≤ 10) × (increasing (now sheet) ≡ true) × (validRule n b ≡ true) ⌝ }
+    requires { ⌜ (n ≤ 10) × (increasing (now sheet) ≡ true) × (validRule n b ≡ true) × (spared t b ≡ false) ⌝ }
     ensures { λ r. ⌜ r ≡ heirMask n t b (now (sheet .entry)) ⌝ }
 {
     let first = panel::head_of(b) * 1048576;

@@ -1,4 +1,5 @@
 -- `sheet::tally_rule` meets its contract.
+use mathlib.Core.Path.{sym, _∙_}
 use native.Mathlib.Omega.{arith}
 use denote.Ref.{now}
 use Rattle.sheet.proofs.Tallying.{tally-rule, tally-short, tally-spared, tally-hit}
@@ -20,7 +21,7 @@ returns : tie.Need-returns
 returns c = tally-spared _ _ _ (c .before .before .before .before .pre .0) (c .before .before .before .before .pre .1) _ _ _ (c .before .before .before .before .pre .2) (c .before .before .before .before .pre .3) _ (c .before .is-spared .ensures) (c .if1 .taken)
 
 heirs-of-requires : tie.Need-heirs-of-requires
-heirs-of-requires c κs = (c .before .before .before .before .pre .0, good-e _ _ (c .before .before .before .before .pre .1) .sorted, tally-rule _ (c .before .before .before .before .args .t) (now (c .before .before .before .before .args .sheet)) (c .before .before .before .before .pre .0) (c .before .before .before .before .pre .1) _ (c .before .before .before .before .pre .2))
+heirs-of-requires c κs = (c .before .before .before .before .pre .0, good-e _ _ (c .before .before .before .before .pre .1) .sorted, tally-rule _ (c .before .before .before .before .args .t) (now (c .before .before .before .before .args .sheet)) (c .before .before .before .before .pre .0) (c .before .before .before .before .pre .1) _ (c .before .before .before .before .pre .2), sym (c .before .is-spared .ensures) ∙ c .if1 .left)
 
 count-on-requires : tie.Need-count-on-requires
 count-on-requires c κs = search needs

@@ -1,5 +1,5 @@
 -- `sheet::visit` meets its contract.
-use mathlib.Core.Path.{refl, sym}
+use mathlib.Core.Path.{refl, sym, _∙_}
 use native.Mathlib.Omega.{arith}
 use denote.Ref.{now}
 use lib.Seq.{length-take-le}
@@ -29,7 +29,7 @@ slice-aggregate-heirs-of : tie.Need-slice-aggregate-heirs-of
 slice-aggregate-heirs-of c = sym (length-take-le _ _ (c .before .before .before .before .before .pre .fits))
 
 heirs-of-requires : tie.Need-heirs-of-requires
-heirs-of-requires c κs = (c .before .before .before .before .before .pre .size, c .before .before .before .before .before .pre .sorted, c .before .before .before .before .before .pre .rule)
+heirs-of-requires c κs = (c .before .before .before .before .before .pre .size, c .before .before .before .before .before .pre .sorted, c .before .before .before .before .before .pre .rule, sym (c .before .before .is-spared .ensures) ∙ c .before .if1 .left)
 
 goes-requires : tie.Need-goes-requires
 goes-requires c κs = search needs
