@@ -249,6 +249,30 @@ add-below (suc n) zero x l k e = omega (arith, pow-suc 2 n, bit-zero x)
 add-below (suc n) (suc v) x l k e =
     omega (arith, pow-suc 2 n, pow-suc 2 v, add-below n v (x / 2) (half-bound n x l) (le-of-suc-le-suc k) (sym (bit-suc v x) ∙ e))
 
+-- ---- one bit fewer in a mask
+
+pub on-le : (v x : ℕ) → on v x ≡ true → 2 ^ v ≤ x
+on-le zero x p = omega (arith, on-bit zero x p, bit-zero x)
+on-le (suc v) x p = omega (arith, pow-suc 2 v, on-le v (x / 2) (sym (on-suc v x) ∙ p))
+
+pub sub-bit : (v x : ℕ) → on v x ≡ true → bit v (x - 2 ^ v) ≡ 0
+sub-bit zero x p = omega (arith, on-bit zero x p, bit-zero x, bit-zero (x - 1))
+sub-bit (suc v) x p =
+    let q : on v (x / 2) ≡ true = sym (on-suc v x) ∙ p in
+    bit-suc v (x - 2 ^ suc v)
+    ∙ ap (bit v) (omega (arith, pow-suc 2 v, on-le v (x / 2) q))
+    ∙ sub-bit v (x / 2) q
+
+pub sub-off : (v x : ℕ) → on v x ≡ true → on v (x - 2 ^ v) ≡ true → ⊥
+sub-off v x p = bit-off v (x - 2 ^ v) (sub-bit v x p)
+
+pub sub-other : (u v x : ℕ) → (u ≡ v → ⊥) → on v x ≡ true → on u (x - 2 ^ v) ≡ on u x
+sub-other u v x d p =
+    let k : bit u (x - 2 ^ v + 2 ^ v) ≡ bit u (x - 2 ^ v) = add-other u v (x - 2 ^ v) d (sub-bit v x p) in
+    let e : x - 2 ^ v + 2 ^ v ≡ x = omega (arith, on-le v x p) in
+    let q : bit u x ≡ bit u (x - 2 ^ v) = ap (bit u) (sym e) ∙ k in
+    same-test (on u (x - 2 ^ v)) (on u x) (λ o. bit-on u x (q ∙ on-bit u (x - 2 ^ v) o)) (λ o. bit-on u (x - 2 ^ v) (sym q ∙ on-bit u x o))
+
 -- ---- the complement, and numbers by their bits
 
 -- the bits of 2^n - 1 - x are those of x turned over

@@ -1,24 +1,27 @@
 -- Candidates put into the table one after the other, and the visit of one rule.
 use mathlib.Core.Path.{_≡_, refl, sym, ap, ap₂, _∙_, subst}
+use mathlib.Core.Logic.{_⊎_, inl, inr}
 use mathlib.Core.Bool.{Bool, true, false, not, _||_}
 use mathlib.Core.List.{List, [], _∷_, _++_}
-use Prim.Native.Nat.{ℕ, zero, suc, _+_, _-_, _≤_, _<_}
-use native.Mathlib.Nat.{le-of-lt, le-refl}
+use Prim.Native.Nat.{ℕ, zero, suc, _+_, _-_, _^_, _≤_, _<_}
+use native.Mathlib.Nat.{le-of-lt, le-refl, lt-irrefl, not-suc-le-zero, eq-or-lt-of-le}
 use native.Mathlib.Numerals.{add-one}
 use native.Mathlib.Omega.{arith}
 use lib.ListN.{length, take, drop, getD}
 use lib.Seq.{length-take-le}
-use lib.Dec.{eqb}
-use borrow.Author.Tests.{eqb-true, eqb-false}
+use lib.Dec.{eqb, ltb}
+use borrow.Author.Tests.{eqb-true, eqb-false, ltb-true, ltb-false}
 use Rattle.table.specs.Lists.{consIf, pick, increasing, insert, insertAll, remove}
 use Rattle.table.specs.Surgery.{Holds}
+use Rattle.table.proofs.Basics.{false-test}
 use Rattle.table.proofs.Inserting.{insert-length, insertAll-length, insertAll-append, insert-if}
 use Rattle.table.proofs.Tables.{inserted-table, removed-table}
 use Rattle.panel.specs.Masks.{on}
+use Rattle.panel.proofs.Masks.{sub-off, sub-other}
 use Rattle.panel.specs.Transitions.{state, spared}
 use Rattle.panel.specs.Contacts.{candidate}
 use Rattle.heirs.specs.Heirs.{heirMask, picked}
-use Rattle.sheet.specs.Taking.{stays, planted, visited, Plantable, Visitable}
+use Rattle.sheet.specs.Taking.{FirstOn, stays, planted, visited, Plantable, Visitable}
 
 -- the first words of a table that is as it was
 pub holds-same : (s : List ℕ) (have : ℕ) → have ≤ length s → Holds s have (length s) (take have s)
@@ -93,16 +96,98 @@ pub plant-done : (n mask b i v : ℕ) (tab : List ℕ) (len : ℕ) (cur : List �
     → Holds cur have len (insertAll (picked v mask b i) tab) → Holds cur have len (insertAll (picked n mask b i) tab)
 plant-done n mask b i v tab len cur have h k q = let e : v ≡ n = omega arith in subst (λ (z : ℕ). Holds cur have len (insertAll (picked z mask b i) tab)) e q
 
+-- ---- the first relay of a mask
+
+pub first-start : (mask v : ℕ) → v < 0 → on v mask ≡ false
+first-start mask v l = absurd (not-suc-le-zero l)
+
+pub first-more : (mask k : ℕ) (x : Bool) → ((v : ℕ) → v < k → on v mask ≡ false) → x ≡ on k mask → x ≡ false → (v : ℕ) → v < k + 1 → on v mask ≡ false
+first-more mask k x f e t v l = go (eq-or-lt-of-le {n = v} {m = k} (omega arith))
+  where
+    go : (v ≡ k) ⊎ (v < k) → on v mask ≡ false
+    go (inl q) = ap (λ (u : ℕ). on u mask) q ∙ sym e ∙ t
+    go (inr q) = f v q
+
+pub first-found : (n mask k : ℕ) (x : Bool) → k < n → ((v : ℕ) → v < k → on v mask ≡ false) → x ≡ on k mask → x ≡ true → FirstOn n mask k
+first-found n mask k x l f e t = record { inside = le-of-lt l; off-before = f; on-here = λ q. sym e ∙ t }
+
+pub first-none : (n mask v : ℕ) → n ≤ v → ((u : ℕ) → u < v → on u mask ≡ false) → FirstOn n mask n
+first-none n mask v l f = record { inside = le-refl n; off-before = λ u q. f u (omega (arith, q, l)); on-here = λ q. absurd (lt-irrefl n q) }
+
+picked-none : (v mask b i : ℕ) → ((u : ℕ) → u < v → on u mask ≡ false) → picked v mask b i ≡ []
+unfolding picked
+picked-none zero mask b i f = refl
+picked-none (suc v) mask b i f =
+    ap₂ (λ (l : List ℕ) (x : Bool). l ++ consIf x (candidate b v i) []) (picked-none v mask b i (λ u l. f u (omega (arith, l)))) (f v (omega arith))
+
+-- the first candidate, and those of the mask without its relay
+module _ (n mask u b i : ℕ) (f : FirstOn n mask u) (l : u < n) where
+  abbrev rest : ℕ
+  rest = mask - 2 ^ u
+
+  rest-off : (v : ℕ) → v < suc u → on v rest ≡ false
+  rest-off v k = go (eq-or-lt-of-le {n = v} {m = u} (omega arith))
+    where
+      go : (v ≡ u) ⊎ (v < u) → on v rest ≡ false
+      go (inl q) = ap (λ (w : ℕ). on w rest) q ∙ false-test (on u rest) (sub-off u mask (f .on-here l))
+      go (inr q) = sub-other v u mask (λ e. lt-irrefl u (subst (λ (w : ℕ). w < u) e q)) (f .on-here l) ∙ f .off-before v q
+
+  picked-first : (v : ℕ) → u < v → picked v mask b i ≡ candidate b u i ∷ picked v rest b i
+  unfolding picked
+  picked-first zero k = absurd (not-suc-le-zero k)
+  picked-first (suc v) k = go (eq-or-lt-of-le {n = u} {m = v} (omega arith)) (λ q. picked-first v q)
+    where
+      go : (u ≡ v) ⊎ (u < v) → (u < v → picked v mask b i ≡ candidate b u i ∷ picked v rest b i)
+          → picked v mask b i ++ consIf (on v mask) (candidate b v i) [] ≡ candidate b u i ∷ (picked v rest b i ++ consIf (on v rest) (candidate b v i) [])
+      go (inl q) rec =
+          let m : on v mask ≡ true = ap (λ (w : ℕ). on w mask) (sym q) ∙ f .on-here l in
+          let a = picked-none v mask b i (λ w s. f .off-before w (omega (arith, s, q))) in
+          let c = picked-none v rest b i (λ w s. rest-off w (omega (arith, s, q))) in
+          ap₂ (λ (x : List ℕ) (y : Bool). x ++ consIf y (candidate b v i) []) a m
+          ∙ ap (λ (w : ℕ). candidate b w i ∷ []) (sym q)
+          ∙ sym (ap₂ (λ (x : List ℕ) (y : Bool). candidate b u i ∷ (x ++ consIf y (candidate b v i) [])) c (rest-off v (omega (arith, q))))
+      go (inr q) rec =
+          ap₂ (λ (x : List ℕ) (y : Bool). x ++ consIf y (candidate b v i) []) (rec q)
+          (sym (sub-other v u mask (λ e. lt-irrefl u (subst (λ (w : ℕ). u < w) e q)) (f .on-here l)))
+
 -- ---- one rule out, its candidates in
 
-module _ (n mask b i : ℕ) (s z : List ℕ) (have : ℕ) (h : Holds z (have - 1) (length s) (remove b (take have s))) where
-  pub replant-can : Plantable n mask b i (remove b (take have s)) (length s) → Plantable n mask b i (take (have - 1) z) (length z)
-  replant-can p = rw (h .is, h .same) p
+pub barren-done : (n mask u b i : ℕ) (s z : List ℕ) (have : ℕ) → FirstOn n mask u → n ≤ u → Holds z (have - 1) (length s) (remove b (take have s))
+    → Holds z (have - 1) (length s) (planted n mask b i (take have s))
+unfolding planted
+barren-done n mask u b i s z have f l h =
+    subst (λ (ws : List ℕ). Holds z (have - 1) (length s) (insertAll ws (remove b (take have s))))
+    (sym (picked-none n mask b i (λ v k. f .off-before v (omega (arith, k, l))))) h
 
-  pub replant-done : (y : List ℕ) (r : ℕ) → Holds y r (length z) (insertAll (picked n mask b i) (take (have - 1) z)) → Holds y r (length s) (planted n mask b i (take have s))
+module _ (n mask u b i c d : ℕ) (s z : List ℕ) (have : ℕ) (f : FirstOn n mask u) (l : u < n) (ec : c ≡ candidate b u i) (ed : d ≡ 2 ^ u)
+    (h : Holds z have (length s) (insert c (remove b (take have s)))) where
+  abbrev swapped : List ℕ
+  swapped = insert (candidate b u i) (remove b (take have s))
+
+  swap-is : take have z ≡ swapped
+  swap-is = h .is ∙ ap (λ (k : ℕ). insert k (remove b (take have s))) ec
+
+  pub swap-can : Plantable n mask b i (remove b (take have s)) (length s) → Plantable n (mask - d) b i (take have z) (length z)
+  swap-can p = rw (ed, swap-is, h .same) (record { in-order = order; fits = subst (λ (ws : List ℕ). length (insertAll ws (remove b (take have s))) ≤ length s) (picked-first n mask u b i f l n l) (p .fits) })
+    where
+      order : (v : ℕ) → v ≤ n → increasing (insertAll (picked v (mask - 2 ^ u) b i) swapped) ≡ true
+      order v k = go (ltb u v) refl
+        where
+          at : (w : ℕ) → u < w → w ≤ n → increasing (insertAll (picked w (mask - 2 ^ u) b i) swapped) ≡ true
+          at w a e = subst (λ (ws : List ℕ). increasing (insertAll ws (remove b (take have s))) ≡ true) (picked-first n mask u b i f l w a) (p .in-order w e)
+
+          go : (x : Bool) → ltb u v ≡ x → increasing (insertAll (picked v (mask - 2 ^ u) b i) swapped) ≡ true
+          go true e = at v (ltb-true u v e) k
+          go false e =
+              let a : v ≤ u = ltb-false u v e in
+              ap (λ (ws : List ℕ). increasing (insertAll ws swapped)) (picked-none v (mask - 2 ^ u) b i (λ w q. rest-off n mask u b i f l w (omega (arith, q, a)))
+              ∙ sym (picked-none (suc u) (mask - 2 ^ u) b i (rest-off n mask u b i f l)))
+              ∙ at (suc u) (omega arith) l
+
+  pub swap-done : (y : List ℕ) (r : ℕ) → Holds y r (length z) (insertAll (picked n (mask - d) b i) (take have z)) → Holds y r (length s) (planted n mask b i (take have s))
   unfolding planted
-  replant-done y r q = record {
-    is = q .is ∙ ap (insertAll (picked n mask b i)) (h .is);
+  swap-done y r q = record {
+    is = q .is ∙ ap₂ (λ (k : ℕ) (t : List ℕ). insertAll (picked n (mask - k) b i) t) ed swap-is ∙ ap (λ (ws : List ℕ). insertAll ws (remove b (take have s))) (sym (picked-first n mask u b i f l n l));
     fits = q .fits;
     same = q .same ∙ h .same;
   }

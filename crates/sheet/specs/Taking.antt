@@ -38,6 +38,12 @@ pub record Tallying (n t : ℕ) (s : List ℕ) (k struck added : ℕ) : Type 0 w
   pub struck-left : struck + length (hits t (drop k s)) ≡ length (hits t s)
   pub added-left : added + length (heirsOfAll n (filter (spared t) s) t (hits t (drop k s))) ≡ length (heirsOfAll n (filter (spared t) s) t (hits t s))
 
+-- u is the first relay below n that is on in the mask, or n where none is
+pub record FirstOn (n mask u : ℕ) : Type 0 where
+  pub inside : u ≤ n
+  pub off-before : (v : ℕ) → v < u → on v mask ≡ false
+  pub on-here : u < n → on u mask ≡ true
+
 -- the rule b stays for now: it is spared, or it has an heir and not all hit rules go yet
 unfoldable pub stays : Bool → ℕ → ℕ → ℕ → List ℕ → Bool
 stays all n t b tab = spared t b || not (all || eqb (heirMask n t b tab) 0)

@@ -13,7 +13,7 @@ ghost use Rattle.panel.specs.Transitions.{state, spared};
 ghost use Rattle.panel.specs.Contacts.{candidate};
 ghost use Rattle.prime.specs.Sheets.{goodSheet, freshSheet, takeSheet};
 ghost use Rattle.heirs.specs.Heirs.{heirMask, picked};
-ghost use Rattle.sheet.specs.Taking.{tallyOf, Tallying, onCount, oneIf, planted, visited, Plantable, Visitable};
+ghost use Rattle.sheet.specs.Taking.{tallyOf, Tallying, onCount, oneIf, FirstOn, planted, visited, Plantable, Visitable};
 
 // What a take strikes and adds.
 pub struct Tally {
@@ -112,14 +112,35 @@ fn plant(sheet: &mut [u32], count: usize, n: u32, i: u32, b: u32, mask: u32) -> 
     have
 }
 
-// The rule at a place goes, and its candidates on the relays of the mask come.
+// The first relay below n that is on in the mask; n where none is.
+fn first_on(n: u32, mask: u32) -> u32
+    ensures { λ r. ⌜ FirstOn n mask r ⌝ }
+{
+    let mut v: u32 = 0;
+    while v < n {
+        if panel::is_on(v, mask) {
+            return v;
+        }
+        v += 1;
+    }
+    n
+}
+
+// The rule at a place goes, and its candidates on the relays of the mask come. The first of them takes over its room, so that only the
+// words between the two places move.
 fn replant(sheet: &mut [u32], have: usize, at: usize, n: u32, i: u32, mask: u32) -> usize
     requires { ⌜ (n ≤ 10) × (getD (now sheet) at 0 < 16777216) × (at < have) × (have ≤ length (now sheet)) × (increasing (take have (now sheet)) ≡ true) × Plantable n mask (getD (now sheet) at 0) i (remove (getD (now sheet) at 0) (take have (now sheet))) (length (now sheet)) ⌝ }
     ensures { λ r. ⌜ Holds (now (sheet .exit)) r (length (now (sheet .entry))) (planted n mask (getD (now (sheet .entry)) at 0) i (take have (now (sheet .entry)))) ⌝ }
 {
     let b = sheet[at];
-    table::remove_at(sheet, have, at);
-    plant(sheet, have - 1, n, i, b, mask)
+    let u = first_on(n, mask);
+    if n <= u {
+        table::remove_at(sheet, have, at);
+        return have - 1;
+    }
+    let c = panel::candidate_on(b, u, i);
+    table::replace_at(sheet, have, at, c);
+    plant(sheet, have, n, i, b, mask - panel::power(u))
 }
 
 // A hit rule goes now: all of them do, or it has no heir.

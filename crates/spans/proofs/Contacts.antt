@@ -10,27 +10,12 @@ use Rattle.table.proofs.Basics.{either, false-test}
 use Rattle.panel.specs.Masks.{on}
 use Rattle.panel.specs.Rules.{ruleWord, head, mustOn, mustOff, narrows}
 use Rattle.panel.specs.Contacts.{free, contact, candidate}
-use Rattle.panel.proofs.Masks.{within, apart, bit, on-bit, bit-off, bit-zero, bit-suc, on-suc, within-on, within-apart, apart-comm, apart-on, on-within, not-within}
+use Rattle.panel.proofs.Masks.{within, apart, on-le, sub-off, within-on, within-apart, apart-comm, apart-on, on-within, not-within}
 use Rattle.panel.proofs.Words.{Rule, Narrows, narrows-e, narrows-i, ruleWord-is, word-fields, head-word, mustOn-word, mustOff-word, mask-small}
 use Rattle.panel.proofs.Candidates.{add-keeps, free-mustOn, free-mustOff, free-i, added}
 use Rattle.spans.specs.Fewer.{pickWord, without}
 
 -- ---- one bit fewer in a mask
-
-on-le : (v x : ℕ) → on v x ≡ true → 2 ^ v ≤ x
-on-le zero x p = omega (arith, on-bit zero x p, bit-zero x)
-on-le (suc v) x p = omega (arith, pow-suc 2 v, on-le v (x / 2) (sym (on-suc v x) ∙ p))
-
-sub-bit : (v x : ℕ) → on v x ≡ true → bit v (x - 2 ^ v) ≡ 0
-sub-bit zero x p = omega (arith, on-bit zero x p, bit-zero x, bit-zero (x - 1))
-sub-bit (suc v) x p =
-    let q : on v (x / 2) ≡ true = sym (on-suc v x) ∙ p in
-    bit-suc v (x - 2 ^ suc v)
-    ∙ ap (bit v) (omega (arith, pow-suc 2 v, on-le v (x / 2) q))
-    ∙ sub-bit v (x / 2) q
-
-sub-off : (v x : ℕ) → on v x ≡ true → on v (x - 2 ^ v) ≡ true → ⊥
-sub-off v x p = bit-off v (x - 2 ^ v) (sub-bit v x p)
 
 sub-within : (n v x : ℕ) → x < 2 ^ n → on v x ≡ true → within (x - 2 ^ v) x ≡ true
 sub-within n v x l p =

@@ -7,16 +7,16 @@ use Prim.Native.Nat.{ℕ, zero, suc, _+_, _-_, _≤_, _<_, suc-le-suc}
 use native.Mathlib.Nat.{le-of-suc-le-suc, not-suc-le-zero, zero-lt-suc, lt-irrefl, le-refl}
 use native.Mathlib.Numerals.{add-one}
 use native.Mathlib.Omega.{arith}
-use lib.ListN.{length, take, drop, getD, replicate, length-append, length-drop}
-use lib.Seq.{take-at, take-take, length-take-le, getD-take, getD-drop}
+use lib.ListN.{length, take, drop, getD, replicate, length-append, length-drop, take-append-drop}
+use lib.Seq.{take-at, take-take, length-take-le, getD-take, getD-drop, drop-drop, drop-append-le, take-append-le}
 use lib.Dec.{eqb, ltb}
 use borrow.Author.Tests.{eq-eqb, ne-eqb, lt-ltb, ltb-true}
 use Rattle.table.specs.Lists.{consIf, pick, increasing, insert, insertAll, remove}
-use Rattle.table.specs.Surgery.{removedAt, placeOf, oneMoreIf, clearedFrom, filled, Holds}
+use Rattle.table.specs.Surgery.{removedAt, movedAt, placeOf, oneMoreIf, clearedFrom, filled, Holds}
 use Rattle.table.proofs.Basics.{at-in}
 use Rattle.table.proofs.Increasing.{first-below, rest-increasing}
 use Rattle.table.proofs.Inserting.{insert-length}
-use Rattle.table.proofs.Shifting.{slice-take, place-above, place-below}
+use Rattle.table.proofs.Shifting.{slice-take, place-above, place-below, insert-place}
 
 -- ---- members of parts
 
@@ -71,7 +71,7 @@ remove-at (x ∷ xs) (suc at) i l =
 
 pub removed-table : (s e : List ℕ) (count at : ℕ) → at < count → count ≤ length s → increasing (take count s) ≡ true → e ≡ removedAt count at s
     → Holds e (count - 1) (length s) (remove (getD s at 0) (take count s))
-unfolding removedAt
+unfolding removedAt movedAt
 removed-table s e count at l h i p =
     let a : List ℕ = take at s in
     let b : List ℕ = take (count - (at + 1)) (drop (at + 1) s) in
@@ -114,6 +114,72 @@ before-below [] at i l x m = absurd (not-suc-le-zero l)
 before-below (y ∷ s) zero i l x m = absurd (List·Memᴰ·not-nil m)
 before-below (y ∷ s) (suc at) i l x (here e) = rw e (first-below y s i (at-in s at (le-of-suc-le-suc l)))
 before-below (y ∷ s) (suc at) i l x (there m) = before-below s at (rest-increasing y s i) (le-of-suc-le-suc l) x m
+
+-- ---- one out, and a larger one in
+
+-- the words before a place count in full towards the place of a word above them all
+place-past : (w k : ℕ) (s : List ℕ) → k ≤ length s → ((x : ℕ) → Mem x (take k s) → x < w) → placeOf w s ≡ k + placeOf w (drop k s)
+place-past w zero s l f = omega arith
+place-past w (suc k) [] l f = absurd (not-suc-le-zero l)
+place-past w (suc k) (x ∷ s) l f =
+    ap (λ (b : Bool). oneMoreIf b (placeOf w s)) (lt-ltb x w (f x (here refl)))
+    ∙ omega (arith, place-past w k s (le-of-suc-le-suc l) (λ y m. f y (there m)))
+
+-- the words up to a place are below what the word there is below
+upto-below : (s : List ℕ) (at w : ℕ) → increasing s ≡ true → at < length s → getD s at 0 < w → (x : ℕ) → Mem x (take (suc at) s) → x < w
+upto-below [] at w i l h x m = absurd (not-suc-le-zero l)
+upto-below (y ∷ s) zero w i l h x (here e) = rw e h
+upto-below (y ∷ s) zero w i l h x (there m) = absurd (List·Memᴰ·not-nil m)
+upto-below (y ∷ s) (suc at) w i l h x (here e) = let k = first-below y s i (at-in s at (le-of-suc-le-suc l)) in rw e (omega (arith, k, h))
+upto-below (y ∷ s) (suc at) w i l h x (there m) = upto-below s at w (rest-increasing y s i) (le-of-suc-le-suc l) h x m
+
+replaced-list : (s : List ℕ) (to at w : ℕ) → increasing s ≡ true → at < length s → getD s at 0 < w → to ≡ placeOf w s
+    → movedAt to at w s ≡ insert w (remove (getD s at 0) s)
+unfolding movedAt
+replaced-list s to at w i l h e =
+    let p : ℕ = placeOf w (drop (suc at) s) in
+    let k : to ≡ suc at + p = e ∙ place-past w (suc at) s l (upto-below s at w i l h) in
+    let d : drop to s ≡ drop p (drop (suc at) s) = ap (λ (j : ℕ). drop j s) k ∙ sym (drop-drop p (suc at) s) in
+    let t : to - (at + 1) ≡ p = omega (arith, k) in
+    let a : at + 1 ≡ suc at = add-one at in
+    ap₂ (λ (j m : ℕ). take at s ++ (take j (drop m s) ++ (w ∷ drop to s))) t a
+    ∙ ap (λ (r : List ℕ). take at s ++ (take p (drop (suc at) s) ++ (w ∷ r))) d
+    ∙ sym (ap (λ (r : List ℕ). take at s ++ r) (insert-place w (drop (suc at) s)))
+    ∙ sym (insert-past w (take at s) (drop (suc at) s) (λ x m. let b = before-below s at i l x m in omega (arith, b, h)))
+    ∙ sym (ap (insert w) (remove-at s at i l))
+
+moved-front : (to at w : ℕ) (xs ys : List ℕ) → at < to → to ≤ length xs → movedAt to at w (xs ++ ys) ≡ movedAt to at w xs ++ ys
+unfolding movedAt
+moved-front to at w xs ys l h =
+    let a : take at (xs ++ ys) ≡ take at xs = take-append-le at xs ys (omega arith) in
+    let m : take (to - (at + 1)) (drop (at + 1) (xs ++ ys)) ≡ take (to - (at + 1)) (drop (at + 1) xs) =
+    ap (take (to - (at + 1))) (drop-append-le (at + 1) xs ys (omega arith)) ∙ take-append-le (to - (at + 1)) (drop (at + 1) xs) ys (omega (arith, length-drop (at + 1) xs)) in
+    let d : drop to (xs ++ ys) ≡ drop to xs ++ ys = drop-append-le to xs ys h in
+    rw (a, m, d) (sym (append-assoc (take at xs) (take (to - (at + 1)) (drop (at + 1) xs) ++ (w ∷ drop to xs)) ys
+    ∙ ap (λ (r : List ℕ). take at xs ++ r) (append-assoc (take (to - (at + 1)) (drop (at + 1) xs)) (w ∷ drop to xs) ys)))
+
+pub removed-is : (s e : List ℕ) (count at : ℕ) → e ≡ movedAt count at 0 s → e ≡ removedAt count at s
+unfolding removedAt
+removed-is s e count at q = q
+
+-- the place of the larger one is behind
+pub replace-above : (s : List ℕ) (count at to w : ℕ) → at < count → count ≤ length s → increasing (take count s) ≡ true → getD s at 0 < w → to ≡ placeOf w (take count s) → at < to
+replace-above s count at to w l h i b p =
+    omega (arith, p, place-above w (take count s) at i (omega (arith, length-take-le count s h)) (omega (arith, getD-take count s at 0 l, b)))
+
+-- the word at a place of the table gives way to a larger one
+pub replaced-table : (s e : List ℕ) (count at to w : ℕ) → at < count → count ≤ length s → increasing (take count s) ≡ true → getD s at 0 < w
+    → to ≡ placeOf w (take count s) → to ≤ length (take count s) → e ≡ movedAt to at w s
+    → e ≡ insert w (remove (getD s at 0) (take count s)) ++ drop count s
+replaced-table s e count at to w l h i b p k q =
+    let tab : List ℕ = take count s in
+    let n : length tab ≡ count = length-take-le count s h in
+    let g : getD tab at 0 ≡ getD s at 0 = getD-take count s at 0 l in
+    let low : getD tab at 0 < w = omega (arith, g, b) in
+    q
+    ∙ ap (movedAt to at w) (sym (take-append-drop count s))
+    ∙ moved-front to at w tab (drop count s) (replace-above s count at to w l h i b p) k
+    ∙ ap (λ (r : List ℕ). r ++ drop count s) (replaced-list tab to at w i (omega (arith, n)) low p ∙ ap (λ (x : ℕ). insert w (remove x tab)) g)
 
 -- ---- the stretch between two places
 
@@ -177,3 +243,17 @@ pub over-holds : (xs s : List ℕ) (r : ℕ) → r ≡ length xs → r ≤ lengt
 over-holds xs s r e l =
     let m : length (xs ++ drop r s) ≡ length s = length-append xs (drop r s) ∙ omega (arith, length-drop r s) in
     record { is = take-at xs (drop r s) r (sym e); fits = omega (arith, m); same = m }
+
+-- the table after a word of it gave way to a larger one
+pub replaced-holds : (s e : List ℕ) (count at w : ℕ) → at < count → count ≤ length s → increasing (take count s) ≡ true
+    → e ≡ insert w (remove (getD s at 0) (take count s)) ++ drop count s → Holds e count (length s) (insert w (remove (getD s at 0) (take count s)))
+replaced-holds s e count at w l h i q =
+    let tab : List ℕ = take count s in
+    let n : length tab ≡ count = length-take-le count s h in
+    let g : getD tab at 0 ≡ getD s at 0 = getD-take count s at 0 l in
+    let r : remove (getD s at 0) tab ≡ take at tab ++ drop (suc at) tab = ap (λ (x : ℕ). remove x tab) (sym g) ∙ remove-at tab at i (omega (arith, n)) in
+    let k : length (remove (getD s at 0) tab) + 1 ≡ count =
+    ap (λ (t : List ℕ). length t + 1) r ∙ ap (λ (m : ℕ). m + 1) (length-append (take at tab) (drop (suc at) tab))
+    ∙ omega (arith, length-take-le at tab (omega (arith, n)), length-drop (suc at) tab, n) in
+    subst (λ (t : List ℕ). Holds t count (length s) (insert w (remove (getD s at 0) tab))) (sym q)
+    (over-holds (insert w (remove (getD s at 0) tab)) s count (sym (insert-length w (remove (getD s at 0) tab) ∙ omega (arith, k))) h)

@@ -10,9 +10,13 @@ use lib.ListN.{length, take, drop, replicate}
 unfoldable pub insertedAt : ℕ → ℕ → ℕ → List ℕ → List ℕ
 insertedAt count at w s = take at s ++ (w ∷ (take (count - at) (drop at s) ++ drop (count + 1) s))
 
+-- the word at `at` taken out: those behind it, up to the place `to`, move one place down, and w follows
+unfoldable pub movedAt : ℕ → ℕ → ℕ → List ℕ → List ℕ
+movedAt to at w s = take at s ++ (take (to - (at + 1)) (drop (at + 1) s) ++ (w ∷ drop to s))
+
 -- the word at `at` taken out: those behind it move one place down, and 0 follows
 unfoldable pub removedAt : ℕ → ℕ → List ℕ → List ℕ
-removedAt count at s = take at s ++ (take (count - (at + 1)) (drop (at + 1) s) ++ (0 ∷ drop count s))
+removedAt count at s = movedAt count at 0 s
 
 abbrev pub oneMoreIf : Bool → ℕ → ℕ
 oneMoreIf true k = suc k
