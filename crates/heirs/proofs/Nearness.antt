@@ -7,10 +7,12 @@ use Prim.Native.Nat.{ℕ, _+_, _≤_, _<_}
 use native.Mathlib.Numerals.{add-one}
 use native.Mathlib.Omega.{arith}
 use lib.Bits.{bitOr}
+use lib.Dec.{eqb}
+use borrow.Author.Tests.{eqb-true}
 use lib.ListN.{length, drop, getD, drop-of-length-le}
 use lib.Seq.{drop-cons}
-use Rattle.table.specs.Lists.{any}
-use Rattle.table.proofs.Basics.{and-l, and-r, and-i, or-e, or-l, or-r, not-i, not-e, same-test, any-e, any-i}
+use Rattle.table.specs.Lists.{any, all}
+use Rattle.table.proofs.Basics.{and-l, and-r, and-i, or-e, or-l, or-r, not-i, not-e, same-test, all-e, at-in}
 use Rattle.panel.specs.Masks.{on}
 use Rattle.panel.specs.Rules.{head, validRule, covers, narrows}
 use Rattle.panel.specs.Transitions.{state, rests, spared}
@@ -52,6 +54,10 @@ near-on p b seen (r ∷ part) =
     near-on p b (bitOr seen (near b r)) part
     ∙ ap (λ (x : Bool). x || any (λ y. on p (near b y)) part) (on-or p seen (near b r))
     ∙ or-assoc (on p seen) (on p (near b r)) (any (λ y. on p (near b y)) part)
+
+-- a rule of the part has the head
+pub in-head : (b : ℕ) (part : List ℕ) (k : ℕ) → all (λ r. eqb (head r) (head b)) part ≡ true → k < length part → head (getD part k 0) ≡ head b
+in-head b part k e l = eqb-true (head (getD part k 0)) (head b) (all-e (λ r. eqb (head r) (head b)) (at-in part k l) e)
 
 pub pass-start : (b : ℕ) (part : List ℕ) → nearAll b 0 (drop 0 part) ≡ nearAll b 0 part
 pass-start b part = refl

@@ -3,13 +3,16 @@ ghost use mathlib.Core.Path.{_≡_};
 ghost use mathlib.Core.Bool.{true, false, not, _&&_};
 ghost use Prim.Native.Nat.{_<_, _≤_};
 ghost use Rattle.panel.specs.Masks.{on, bitIf};
-ghost use Rattle.panel.specs.Rules.{validRule};
+ghost use Rattle.panel.specs.Rules.{head, validRule};
+ghost use Rattle.table.specs.Lists.{all};
+ghost use lib.Dec.{eqb};
 ghost use Rattle.panel.specs.Transitions.{spared};
 ghost use Rattle.panel.specs.Contacts.{free, contactPlace};
 ghost use Rattle.heirs.specs.Heirs.{heirMask, nearAll};
 
-// The contacts that single rules of the part have beyond b, as bits of the word: one pass, no branch that depends on more than one rule.
+// The contacts that single rules of the part have beyond b, as bits of the word. All are rules of its head.
 fn near_part(part: &[u32], b: u32) -> u32
+    requires { ⌜ all (λ r. eqb (head r) (head b)) (now part) ≡ true ⌝ }
     ensures { λ r. ⌜ r ≡ nearAll b 0 (now (part .entry)) ⌝ }
 {
     let mut seen: u32 = 0;
@@ -44,9 +47,9 @@ fn bit_if(x: bool, v: u32) -> u32
     0
 }
 
-// The relays below n whose candidates of the hit rule b are heirs, as far as the part tells.
+// The relays below n whose candidates of the hit rule b are heirs, as far as the part, rules of its head, tells.
 pub fn heir_mask(part: &[u32], n: u32, t: u32, b: u32) -> u32
-    requires { ⌜ (n ≤ 10) × (validRule n b ≡ true) × (spared t b ≡ false) ⌝ }
+    requires { ⌜ (n ≤ 10) × (validRule n b ≡ true) × (spared t b ≡ false) × (all (λ r. eqb (head r) (head b)) (now part) ≡ true) ⌝ }
     ensures { λ r. ⌜ r ≡ heirMask n t b (now (part .entry)) ⌝ }
 {
     let seen = near_part(part, b);

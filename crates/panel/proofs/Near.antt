@@ -97,12 +97,6 @@ near-i p b r k =
 -- ---- the code's ways through
 
 module _ (b r : ℕ) where
-  pub near-other : (x y : ℕ) → x ≡ head r → y ≡ head b → (x ≡ y → ⊥) → 0 ≡ near b r
-  unfolding near
-  near-other x y ex ey f =
-      ap (λ (t : Bool). cond t (beyond b r) 0)
-      (sym (false-test (eqb (head r) (head b) && lone (beyond b r)) (λ e. f (ex ∙ eqb-true (head r) (head b) (and-l (eqb (head r) (head b)) (lone (beyond b r)) e) ∙ sym ey))))
-
   pub near-none : (d : ℕ) → d ≡ r - bitAnd r b → d ≡ 0 → 0 ≡ near b r
   unfolding near beyond
   near-none d e z = go (eqb (head r) (head b) && lone (beyond b r))
@@ -118,12 +112,12 @@ module _ (b r : ℕ) where
       (sym (false-test (eqb (head r) (head b) && lone (beyond b r))
       (λ q. f (ap (λ (x : ℕ). bitAnd x (x - 1)) e ∙ eqb-true (bitAnd (beyond b r) (beyond b r - 1)) 0 (and-r (eqb (head r) (head b)) (lone (beyond b r)) q)))))
 
-  pub near-one : (d x y : ℕ) → d ≡ r - bitAnd r b → x ≡ head r → y ≡ head b → x ≡ y → bitAnd d (d - 1) ≡ 0 → d ≡ near b r
+  pub near-one : (d : ℕ) → d ≡ r - bitAnd r b → head r ≡ head b → bitAnd d (d - 1) ≡ 0 → d ≡ near b r
   unfolding near lone beyond
-  near-one d x y e ex ey h z =
+  near-one d e h z =
       e
       ∙ ap (λ (x : Bool). cond x (beyond b r) 0)
-      (sym (and-i (eqb (head r) (head b)) (lone (beyond b r)) (eq-eqb (head r) (head b) (sym ex ∙ h ∙ ey)) (eq-eqb (bitAnd (beyond b r) (beyond b r - 1)) 0 (ap (λ (x : ℕ). bitAnd x (x - 1)) (sym e) ∙ z))))
+      (sym (and-i (eqb (head r) (head b)) (lone (beyond b r)) (eq-eqb (head r) (head b) h) (eq-eqb (bitAnd (beyond b r) (beyond b r - 1)) 0 (ap (λ (x : ℕ). bitAnd x (x - 1)) (sym e) ∙ z))))
 
 pub place-by : (v i : ℕ) (x : Bool) → x ≡ on v i → placeBy x v ≡ contactPlace v i
 unfolding contactPlace

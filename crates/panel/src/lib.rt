@@ -184,13 +184,11 @@ pub fn candidate_on(w: u32, v: u32, i: u32) -> u32
     w + bit * 1024
 }
 
-// The contact that the rule r has beyond the rule b, as its bit in the word, where it is the only one; else 0.
+// The contact that r, a rule of one head with b, has beyond b, as its bit in the word, where it is the only one; else 0.
 pub fn near_rule(b: u32, r: u32) -> u32
+    requires { ⌜ head r ≡ head b ⌝ }
     ensures { λ k. ⌜ k ≡ near b r ⌝ }
 {
-    if head_of(r) != head_of(b) {
-        return 0;
-    }
     let d = r - (r & b);
     if d == 0 {
         return 0;

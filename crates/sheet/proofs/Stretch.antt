@@ -7,10 +7,12 @@ use native.Mathlib.Nat.{lt-suc-self}
 use native.Mathlib.Numerals.{add-one}
 use native.Mathlib.Omega.{arith}
 use lib.ListN.{length, take, drop, length-append}
-use Rattle.table.specs.Lists.{any, consIf, increasing}
+use lib.Dec.{eqb}
+use borrow.Author.Tests.{eq-eqb}
+use Rattle.table.specs.Lists.{any, all, consIf, increasing}
 use Rattle.table.specs.Surgery.{placeOf}
-use Rattle.table.proofs.Basics.{and-r, same-test, any-e, any-i}
-use Rattle.table.proofs.Tables.{place-up, stretch-in, in-stretch}
+use Rattle.table.proofs.Basics.{and-r, same-test, any-e, any-i, all-i}
+use Rattle.table.proofs.Tables.{place-up, stretch-in, in-stretch, stretch-between}
 use Rattle.panel.specs.Masks.{on, bitsWhere, bitIf}
 use Rattle.panel.specs.Rules.{head, validRule, narrows}
 use Rattle.panel.specs.Transitions.{state, spared}
@@ -28,6 +30,10 @@ head-from h x e = omega arith
 head-below : (h x : ℕ) → head x ≡ h → x < h * 1048576 + 1048576
 unfolding head
 head-below h x e = omega arith
+
+head-is : (h x : ℕ) → h * 1048576 ≤ x → x < h * 1048576 + 1048576 → head x ≡ h
+unfolding head
+head-is h x l k = omega arith
 
 pub head-small : (n b h : ℕ) → n ≤ 10 → validRule n b ≡ true → h ≡ head b → h < 10
 head-small n b h small rb eh = omega (arith, eh, rule-e n b rb .head-lt)
@@ -60,6 +66,13 @@ module _ (n t b h lo a e : ℕ) (s : List ℕ) (small : n ≤ 10) (i : increasin
       go : (x : Bool) → free v b ≡ x → (x && not (blocked t (candidate b v (state t)) part)) ≡ (x && not (blocked t (candidate b v (state t)) s))
       go true f = ap not (same-block (candidate b v (state t)) (added n small b v (rule-e n b rb) l f (state t) .one-head))
       go false f = refl
+
+  -- all of the stretch are rules of the head
+  pub stretch-heads : all (λ r. eqb (head r) (head b)) part ≡ true
+  stretch-heads = all-i (λ r. eqb (head r) (head b)) part (λ r m. eq-eqb (head r) (head b) (one r (stretch-between lo (lo + 1048576) a e s i ea ee le m)))
+    where
+      one : (r : ℕ) → (lo ≤ r) × (r < lo + 1048576) → head r ≡ head b
+      one r k = head-is h r (omega (arith, el, k .0)) (omega (arith, el, k .1)) ∙ eh
 
   pub stretch-heirs : (m : ℕ) → m ≡ heirMask n t b part → m ≡ heirMask n t b s
   unfolding heirMask

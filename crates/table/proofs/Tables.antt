@@ -3,14 +3,14 @@ use mathlib.Core.Path.{_≡_, refl, sym, ap, ap₂, _∙_, subst}
 use mathlib.Core.Logic.{_⊎_, inl, inr}
 use mathlib.Core.Bool.{Bool, true, false, not}
 use mathlib.Core.List.{List, [], _∷_, _++_, append-assoc, List·Memᴰ as Mem, List·Memᴰ·head as here, List·Memᴰ·tail as there, List·Memᴰ·not-nil}
-use Prim.Native.Nat.{ℕ, zero, suc, _+_, _-_, _≤_, _<_, suc-le-suc}
+use Prim.Native.Nat.{ℕ, zero, suc, _+_, _-_, _≤_, _<_, suc-le-suc, min}
 use native.Mathlib.Nat.{le-of-suc-le-suc, not-suc-le-zero, zero-lt-suc, lt-irrefl, le-refl}
 use native.Mathlib.Numerals.{add-one}
 use native.Mathlib.Omega.{arith}
-use lib.ListN.{length, take, drop, getD, replicate, length-append, length-drop, take-append-drop}
+use lib.ListN.{length, take, drop, getD, replicate, length-append, length-take, length-drop, take-append-drop}
 use lib.Seq.{take-at, take-take, length-take-le, getD-take, getD-drop, drop-drop, drop-append-le, take-append-le}
 use lib.Dec.{eqb, ltb}
-use borrow.Author.Tests.{eq-eqb, ne-eqb, lt-ltb, ltb-true}
+use borrow.Author.Tests.{eq-eqb, ne-eqb, lt-ltb, ltb-true, ltb-false}
 use Rattle.table.specs.Lists.{consIf, pick, increasing, insert, insertAll, remove}
 use Rattle.table.specs.Surgery.{removedAt, movedAt, placeOf, oneMoreIf, clearedFrom, filled, Holds}
 use Rattle.table.proofs.Basics.{at-in}
@@ -211,6 +211,32 @@ in-stretch lo hi a e s i ea ee le {x} m l h =
     let p = k .0 in
     subst (λ (y : ℕ). Mem y (take (e - a) (drop a s))) (k .2)
     (at-stretch a e p s (omega (arith, ea, place-below lo s p (k .1) (omega (arith, k .2)))) (omega (arith, ee, place-above hi s p i (k .1) (omega (arith, k .2)))) le)
+
+-- and all that stand there are from lo on and below hi
+pub stretch-between : (lo hi a e : ℕ) (s : List ℕ) → increasing s ≡ true → a ≡ placeOf lo s → e ≡ placeOf hi s → e ≤ length s
+    → {x : ℕ} → Mem x (take (e - a) (drop a s)) → (lo ≤ x) × (x < hi)
+stretch-between lo hi a e s i ea ee le {x} m =
+    let k = in-at m in
+    let n : length (take (e - a) (drop a s)) ≡ min (e - a) (length (drop a s)) = length-take (e - a) (drop a s) in
+    let p : a + k .0 < e = omega (arith, k .1, n) in
+    let g : getD s (a + k .0) 0 ≡ x = sym (getD-take (e - a) (drop a s) (k .0) 0 (omega (arith, p)) ∙ getD-drop a s (k .0) 0) ∙ k .2 in (
+      passes-le lo x (λ l. omega (arith, ea, place-above lo s (a + k .0) i (omega (arith, p, le)) (omega (arith, g, l)))),
+      passes-lt x hi (λ l. omega (arith, ee, p, place-below hi s (a + k .0) (omega (arith, p, le)) (omega (arith, g, l)))),
+    )
+  where
+    passes-le : (b x : ℕ) → (x < b → ⊥) → b ≤ x
+    passes-le b x f = go (ltb x b) refl
+      where
+        go : (t : Bool) → ltb x b ≡ t → b ≤ x
+        go true q = absurd (f (ltb-true x b q))
+        go false q = ltb-false x b q
+
+    passes-lt : (x b : ℕ) → (b ≤ x → ⊥) → x < b
+    passes-lt x b f = go (ltb x b) refl
+      where
+        go : (t : Bool) → ltb x b ≡ t → x < b
+        go true q = ltb-true x b q
+        go false q = absurd (f (ltb-false x b q))
 
 -- ---- an increasing list of small numbers is short
 

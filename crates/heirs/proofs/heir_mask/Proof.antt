@@ -24,7 +24,7 @@ abbrev μ-loop : tie.MeasureT-loop
 
 -- src/lib.rt:52:9
 near-part-requires : tie.Need-near-part-requires Inv-loop μ-loop
-near-part-requires c κs = search needs
+near-part-requires c κs = c .before .pre .3
 
 -- src/lib.rt:53:9
 state-of-requires : tie.Need-state-of-requires Inv-loop μ-loop

@@ -2,9 +2,11 @@ use mathlib.Core.Path.{_≡_}
 use Prim.Native.Nat.{_≤_, _-_}
 use native.Mathlib.Omega.{arith}
 use lib.ListN.{length, drop}
+use denote.Ref.{now}
 use borrow.Author.Needs.{needs}
 use Rattle.heirs.specs.Heirs.{nearAll}
-use Rattle.heirs.proofs.Nearness.{pass-start, pass-more, pass-end}
+use Rattle.heirs.proofs.Nearness.{in-head, pass-start, pass-more, pass-end}
+use denote.Ref.{now}
 use borrow.Author.Needs.{needs}
 use Rattle.heirs.proofs.near_part.Statement.{statement}
 use Rattle.heirs.proofs.near_part.Tie as tie
@@ -32,7 +34,7 @@ shared-slice-read-near-rule c = search needs
 
 -- src/lib.rt:18:23
 near-rule-requires : tie.Need-near-rule-requires Inv-loop μ-loop
-near-rule-requires c κs = search needs
+near-rule-requires c κs = in-head _ (now (c .before .before .before .before .args .part)) _ (c .before .before .before .before .pre) (c .before .loop-test .taken)
 
 -- src/lib.rt:19:9
 add-k : tie.Need-add-k Inv-loop μ-loop

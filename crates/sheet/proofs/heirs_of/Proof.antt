@@ -2,7 +2,7 @@
 use mathlib.Core.Path.{refl}
 use native.Mathlib.Omega.{arith}
 use denote.Ref.{now}
-use Rattle.sheet.proofs.Stretch.{head-small, stretch-order, stretch-heirs}
+use Rattle.sheet.proofs.Stretch.{head-small, stretch-order, stretch-heads, stretch-heirs}
 use borrow.Author.Needs.{needs}
 use Rattle.sheet.proofs.heirs_of.Statement.{statement}
 use Rattle.sheet.proofs.heirs_of.Tie as tie
@@ -35,7 +35,7 @@ part-heir-mask-end : tie.Need-part-heir-mask-end
 part-heir-mask-end c = search needs
 
 heir-mask-requires : tie.Need-heir-mask-requires
-heir-mask-requires c κs = (c .before .before .before .before .before .pre .0, c .before .before .before .before .before .pre .2, c .before .before .before .before .before .pre .3)
+heir-mask-requires c κs = (c .before .before .before .before .before .pre .0, c .before .before .before .before .before .pre .2, c .before .before .before .before .before .pre .3, stretch-heads _ (c .before .before .before .before .before .args .t) _ _ _ _ _ (now (c .before .before .before .before .before .args .sheet)) (c .before .before .before .before .before .pre .0) (c .before .before .before .before .before .pre .1) (c .before .before .before .before .before .pre .2) (c .before .before .before .head-of .ensures) refl (c .before .before .place .ensures .0) (c .before .place2 .ensures .0) (c .before .place2 .ensures .1))
 
 returns : tie.Need-returns
 returns c = stretch-heirs _ _ _ _ _ _ _ (now (c .before .before .before .before .before .before .args .sheet)) (c .before .before .before .before .before .before .pre .0) (c .before .before .before .before .before .before .pre .1) (c .before .before .before .before .before .before .pre .2) (c .before .before .before .before .head-of .ensures) refl (c .before .before .before .place .ensures .0) (c .before .before .place2 .ensures .0) (c .before .before .place2 .ensures .1) _ (c .heir-mask .ensures)
