@@ -1,0 +1,4 @@
+pub mod LineLaws
+pub mod LearnLaws
+pub mod RunLaws
+pub mod Promises
