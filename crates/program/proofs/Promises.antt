@@ -17,7 +17,7 @@ use Rattle.writing.specs.SheetText.{sheetText}
 use Rattle.writing.specs.Writing.{written, textLength}
 use Rattle.writing.proofs.TextLaws.{sheet-length}
 use Rattle.writing.proofs.WriteLaws.{size-small}
-use Rattle.program.specs.Program.{ifRoom, entryCode, learnedRun, writtenRun, runText, printed, Runs}
+use Rattle.program.specs.Program.{ifRoom, entryCode, entryPlace, learnedRun, writtenRun, runText, printed, Runs}
 use Rattle.program.proofs.LineLaws.{decimal-most, room-yes}
 use Rattle.program.proofs.LearnLaws.{Writable, learn-writable}
 
@@ -51,7 +51,8 @@ unfolding textLength
 short-text n s h k =
     let a = decimal-most 1 n (omega arith) in
     let b = decimal-most 3 (length s) (omega arith) in
-    let c = mul-le-mul {p = length s} {q = 1024} {m = 2 * n + 2} {n = 22} k (omega arith) in
+    let few : 2 * n + 2 ≤ 22 = omega arith in
+    let c : length s * (2 * n + 2) ≤ 1024 * 22 = mul-le-mul k few in
     omega (arith, sheet-length n s)
 
 -- 12 is never given where at most 1,024 rules are learned and there is room for 24,576 bytes
@@ -71,7 +72,7 @@ run-done {t = t} {list = list} {book = book} {sheet = sheet} {out = out} q h k e
     let n = readAnswer t (length list) .n in
     let w : Writable n (length sheet) (going book₁ sheet₁ x y) = subst (Writable n (length sheet)) g (learn-writable n (length sheet) (length book) (take (readAnswer t (length list) .count) (readList t (length list)))) in
     let z : printed t (length list) (length book) (length sheet) (length out) ≡ sheetText n sheet₁ =
-    ap (λ (c : ℕ). ifRoom (length out) (runText n (runIf c _ _))) e
+    ap (λ (c : ℕ). ifRoom (length out) (runText n (runIf c (writtenRun n (length out) (learnedRun t (length list) (length book) (length sheet))) (entryPlace t (length list))))) e
     ∙ ap (λ (p : Run). ifRoom (length out) (runText n (writtenRun n (length out) p))) g
     ∙ ap (λ (p : Run). ifRoom (length out) (runText n p)) (never-12 n (length sheet) (length out) h k (going book₁ sheet₁ x y) w)
     ∙ room-yes (length out) (sheetText n sheet₁) (omega (arith, short-text n sheet₁ (size-small n (w .0)) (omega (arith, w .2)))) in
