@@ -2,3 +2,4 @@ pub mod LineLaws
 pub mod LearnLaws
 pub mod RunLaws
 pub mod Promises
+pub mod AnswerLaws

@@ -1,5 +1,5 @@
 -- What the contract of `run` comes to: one result, inside its room; a learned sheet is printed, and in the program's rooms never refused with 12.
-use Prim.Native.Nat.{ℕ, _+_, _*_, _≤_, _<_}
+use Prim.Native.Nat.{ℕ, _+_, _*_, _≤_}
 use mathlib.Core.Path.{_≡_, refl, sym, _∙_, ap, subst}
 use mathlib.Core.List.{List, []}
 use mathlib.Core.Bool.{Bool, true, false, cond}
@@ -8,10 +8,8 @@ use native.Mathlib.Nat.{mul-le-mul}
 use lib.Dec.{leb}
 use lib.ListN.{length, take}
 use borrow.Author.Tests.{le-ltb, leb-true}
-use Rattle.fields.specs.Decimals.{decimal}
-use Rattle.panel.specs.Masks.{panelSize}
 use Rattle.recording.specs.Reading.{readAnswer, readList}
-use Rattle.learning.specs.Learn.{Run, going, refused, choose, learnRun}
+use Rattle.learning.specs.Learn.{Run, going, refused}
 use Rattle.learning.specs.Running.{runIf}
 use Rattle.writing.specs.SheetText.{sheetText}
 use Rattle.writing.specs.Writing.{written, textLength}

@@ -1,29 +1,27 @@
 -- Laws of the ways through the program: what each return leaves is what its contract says.
-use Prim.Native.Nat.{ℕ, zero, suc, _+_, _-_, _≤_, _<_}
+use Prim.Native.Nat.{ℕ, zero, suc, _-_, _≤_, _<_}
 use mathlib.Core.Path.{_≡_, refl, sym, _∙_, ap, ap₂}
 use mathlib.Core.List.{List}
 use mathlib.Core.Bool.{Bool, true, false, cond}
 use native.Mathlib.Omega.{arith}
 use lib.Dec.{leb, ltb}
-use lib.ListN.{length, take, replicate, length-append, length-replicate}
+use lib.ListN.{length, take, replicate, length-append}
 use lib.Seq.{take-at}
-use borrow.Author.Tests.{le-leb, le-ltb, lt-ltb, leb-true, ltb-true, ltb-false}
+use borrow.Author.Tests.{le-ltb, lt-ltb, leb-true, ltb-false}
 use Rattle.table.specs.Surgery.{filled}
 use Rattle.answers.specs.Answers.{refuse, wordsIf}
 use Rattle.answers.specs.declared.Answer.{Answer}
-use Rattle.panel.specs.Masks.{panelSize}
-use Rattle.prime.specs.Sheets.{goodSheet}
 use Rattle.lines.specs.declared.Kind.the-variants.{Recording}
 use Rattle.headers.specs.Verdicts.{judgeOf}
 use Rattle.headers.specs.declared.Verdict.{Verdict}
 use Rattle.headers.specs.declared.Verdict.the-variants.{Good, Bad}
 use Rattle.recording.specs.Rows.{textWords}
-use Rattle.recording.specs.Reading.{refusal, answerFor, listFor, readAnswer, readList, Reads}
+use Rattle.recording.specs.Reading.{refusal, answerFor, readAnswer, readList, Reads}
 use Rattle.recording.specs.declared.ReadAnswer.{ReadAnswer}
-use Rattle.learning.specs.Learn.{Run, going, refused, choose, learnRun, runAnswer, runBook, runSheet, Learned}
+use Rattle.learning.specs.Learn.{Run, going, refused, choose, learnRun, runAnswer, runSheet, Learned}
 use Rattle.learning.specs.Running.{runIf}
 use Rattle.writing.specs.SheetText.{sheetText}
-use Rattle.writing.specs.Writing.{written, Put, writeCode, withLength, lengthIf, Writes}
+use Rattle.writing.specs.Writing.{written, Put, writeCode, Writes}
 use Rattle.writing.specs.declared.WriteAnswer.{WriteAnswer}
 use Rattle.program.specs.Program.{refusalLine, ifRoom, tooLong, entryCode, entryPlace, learnedRun, writtenRun, runText, printed, Runs, Sheets}
 use Rattle.program.proofs.LineLaws.{room-yes}
@@ -124,18 +122,21 @@ module _ (n : ℕ) (ts book sheet out book′ sheet′ : List ℕ) (a : Answer) 
 -- ---- reading
 
 -- the words read lie in the list
-pub read-count : (t before after : List ℕ) (a : ReadAnswer) → Reads t before after a → a .count ≤ length before
+pub count-within : (t : List ℕ) (room : ℕ) → readAnswer t room .count ≤ room
 unfolding readAnswer
-read-count t before after a h = go (judgeOf Recording t) (h .answer)
+count-within t room = go (judgeOf Recording t)
   where
-    many : (ws : List ℕ) (n : ℕ) (b : Bool) → leb (length ws) (length before) ≡ b
-        → (cond b (record { code = 0; place = 0; n = n; count = length ws }) (refusal 8 0)) .count ≤ length before
+    many : (ws : List ℕ) (n : ℕ) (b : Bool) → leb (length ws) room ≡ b
+        → (cond b (record { code = 0; place = 0; n = n; count = length ws }) (refusal 8 0)) .count ≤ room
     many ws n true e = leb-true _ _ e
     many ws n false e = omega arith
 
-    go : (v : Verdict) → a ≡ answerFor v (textWords t) (length before) → a .count ≤ length before
-    go (Bad p) e = rw e (omega arith)
-    go (Good n) e = rw e (many (textWords t) n (leb (length (textWords t)) (length before)) refl)
+    go : (v : Verdict) → answerFor v (textWords t) room .count ≤ room
+    go (Bad p) = omega arith
+    go (Good n) = many (textWords t) n (leb (length (textWords t)) room) refl
+
+pub read-count : (t before after : List ℕ) (a : ReadAnswer) → Reads t before after a → a .count ≤ length before
+read-count t before after a h = rw (h .answer) (count-within t (length before))
 
 -- ---- the whole
 

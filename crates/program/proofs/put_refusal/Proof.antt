@@ -2,7 +2,7 @@
 use Rattle.program.proofs.LineLaws.{line-length-is, put-no-line, put-line}
 use native.Mathlib.Omega.{arith}
 use Rattle.writing.proofs.TextLaws.{header-length}
-use mathlib.Core.List.{List, [], _∷_}
+use mathlib.Core.List.{[], _∷_}
 use borrow.Author.Needs.{needs}
 use Rattle.program.proofs.put_refusal.Statement.{statement}
 use Rattle.program.proofs.put_refusal.Tie as tie
