@@ -3,3 +3,4 @@ pub mod LearnLaws
 pub mod RunLaws
 pub mod Promises
 pub mod AnswerLaws
+pub mod Examples
