@@ -148,7 +148,7 @@ module _ (t list book sheet out : List ℕ) where
       record {
         long = rw y (p .behind ∙ omega arith);
         bytes = rw y (p .bytes);
-        list-words = rw y;
+        list-words = sym (ap (λ (b : Bool). cond b list (readList t (length list))) y);
         book-words = rw y;
         sheet-words = rw y;
       }
@@ -166,7 +166,7 @@ module _ (t list book sheet out : List ℕ) where
     place-read = rw (short, k .answer)
 
     list-read : list′ ≡ cond (tooLong t) list (readList t (length list))
-    list-read = rw short (k .list)
+    list-read = k .list ∙ sym (ap (λ (b : Bool). cond b list (readList t (length list))) short)
 
     abbrev later : Run
     later = writtenRun (readAnswer t (length list) .n) (length out) (learnedRun t (length list) (length book) (length sheet))
