@@ -30,7 +30,7 @@ fn put_byte(out: &mut [u8], at: usize, b: u8) -> usize
     at + 1
 }
 
-fn put_bytes(out: &mut [u8], at: usize, s: &[u8]) -> usize
+pub fn put_bytes(out: &mut [u8], at: usize, s: &[u8]) -> usize
     requires { ⌜ at + length (now s) ≤ length (now out) ⌝ }
     ensures { λ r. ⌜ Put (now (out .entry)) at (now (s .entry)) (now (out .exit)) r ⌝ }
 {
@@ -51,7 +51,7 @@ fn digit_byte(d: usize) -> u8
 }
 
 // A number in decimal: the digits of a tenth of it, and then the last.
-fn put_number(out: &mut [u8], at: usize, v: usize) -> usize
+pub fn put_number(out: &mut [u8], at: usize, v: usize) -> usize
     requires { ⌜ at + length (decimal v) ≤ length (now out) ⌝ }
     ensures { λ r. ⌜ Put (now (out .entry)) at (decimal v) (now (out .exit)) r ⌝ }
 {
@@ -63,7 +63,7 @@ fn put_number(out: &mut [u8], at: usize, v: usize) -> usize
 }
 
 // A keyword with a number.
-fn put_header(out: &mut [u8], at: usize, key: &[u8], v: usize) -> usize
+pub fn put_header(out: &mut [u8], at: usize, key: &[u8], v: usize) -> usize
     requires { ⌜ at + length (headerText (now key) v) ≤ length (now out) ⌝ }
     ensures { λ r. ⌜ Put (now (out .entry)) at (headerText (now (key .entry)) v) (now (out .exit)) r ⌝ }
 {
@@ -151,7 +151,7 @@ fn put_sheet(n: u32, sheet: &[u32], out: &mut [u8]) -> usize
 }
 
 // The number of digits.
-fn digits(v: usize) -> usize
+pub fn digits(v: usize) -> usize
     ensures { λ r. ⌜ (r ≡ length (decimal v)) × (r ≤ v + 1) ⌝ }
 {
     let mut k = 1;

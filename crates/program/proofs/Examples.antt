@@ -1,0 +1,42 @@
+-- The worked example of 01, the whole way: what the program prints for the panel of document 000, in rooms that just do, and in smaller ones.
+use Prim.Native.Nat.{ℕ}
+use mathlib.Core.Path.{_≡_, refl}
+use mathlib.Core.List.{List, [], _∷_}
+use Rattle.fields.specs.Bytes.{markOf, run, same}
+use Rattle.fields.specs.Decimals.{decimal, decimalFrom}
+use Rattle.fields.specs.Fields.{fieldsFrom, fieldsIn}
+use Rattle.fields.specs.Texts.{body, linesOf}
+use Rattle.fields.specs.Values.{cubeOf, digits, numberOf}
+use Rattle.headers.specs.Headers.{fitsOf, openOf, readyOf}
+use Rattle.headers.specs.Verdicts.{finishOf, judgeLines, judgeOf}
+use Rattle.learning.specs.Learn.{learnEnd, learnRun, learnStart, learnStep, learnWords, reproduced, taken}
+use Rattle.lines.specs.Lines.{classOf, keyOf, lineOf, ofFields, rowLine, typedOf}
+use Rattle.panel.specs.Masks.{allOff, allOn, bitsWhere, on, panelSize, relays}
+use Rattle.panel.specs.Rules.{contains, covers, head, mustOff, mustOn, narrows, ruleWord, rules}
+use Rattle.panel.specs.Transitions.{next, observed, rests, spared, state, transitionWord, validTransition}
+use Rattle.prime.specs.Books.{booked}
+use Rattle.prime.specs.Sheets.{addedCount, applySheet, freshSheet, least, permits, pullsIn, sheetWhere, struckCount, takeSheet}
+use Rattle.recording.specs.Reading.{readAnswer, readList}
+use Rattle.recording.specs.Rows.{linesWords, matchesOf, textWords, wordsBelow}
+use Rattle.table.specs.Lists.{has, missing}
+use Rattle.table.specs.Surgery.{filled}
+use Rattle.writing.specs.SheetText.{columns, headerText, inputByte, outputByte, rowText, rowsText, sheetText}
+use Rattle.program.specs.Program.{refusalLine, ifRoom, entryCode, entryPlace, learnedRun, writtenRun, runText, printed}
+
+-- .i 3⏎.o 3⏎.type fr⏎111 110⏎110 100⏎100 000⏎000 001⏎001 001⏎011 101⏎101 010⏎010 101⏎.e⏎
+abbrev panel : List ℕ
+panel = 46 ∷ 105 ∷ 32 ∷ 51 ∷ 10 ∷ 46 ∷ 111 ∷ 32 ∷ 51 ∷ 10 ∷ 46 ∷ 116 ∷ 121 ∷ 112 ∷ 101 ∷ 32 ∷ 102 ∷ 114 ∷ 10 ∷ 49 ∷ 49 ∷ 49 ∷ 32 ∷ 49 ∷ 49 ∷ 48 ∷ 10 ∷ 49 ∷ 49 ∷ 48 ∷ 32 ∷ 49 ∷ 48 ∷ 48 ∷ 10 ∷ 49 ∷ 48 ∷ 48 ∷ 32 ∷ 48 ∷ 48 ∷ 48 ∷ 10 ∷ 48 ∷ 48 ∷ 48 ∷ 32 ∷ 48 ∷ 48 ∷ 49 ∷ 10 ∷ 48 ∷ 48 ∷ 49 ∷ 32 ∷ 48 ∷ 48 ∷ 49 ∷ 10 ∷ 48 ∷ 49 ∷ 49 ∷ 32 ∷ 49 ∷ 48 ∷ 49 ∷ 10 ∷ 49 ∷ 48 ∷ 49 ∷ 32 ∷ 48 ∷ 49 ∷ 48 ∷ 10 ∷ 48 ∷ 49 ∷ 48 ∷ 32 ∷ 49 ∷ 48 ∷ 49 ∷ 10 ∷ 46 ∷ 101 ∷ 10 ∷ []
+
+-- .i 3⏎.o 3⏎.type f⏎.p 3⏎-1- 100⏎1-1 010⏎0-- 001⏎.e⏎
+abbrev sheet : List ℕ
+sheet = 46 ∷ 105 ∷ 32 ∷ 51 ∷ 10 ∷ 46 ∷ 111 ∷ 32 ∷ 51 ∷ 10 ∷ 46 ∷ 116 ∷ 121 ∷ 112 ∷ 101 ∷ 32 ∷ 102 ∷ 10 ∷ 46 ∷ 112 ∷ 32 ∷ 51 ∷ 10 ∷ 45 ∷ 49 ∷ 45 ∷ 32 ∷ 49 ∷ 48 ∷ 48 ∷ 10 ∷ 49 ∷ 45 ∷ 49 ∷ 32 ∷ 48 ∷ 49 ∷ 48 ∷ 10 ∷ 48 ∷ 45 ∷ 45 ∷ 32 ∷ 48 ∷ 48 ∷ 49 ∷ 10 ∷ 46 ∷ 101 ∷ 10 ∷ []
+
+-- 8 words, 8 book words, 7 rules on the way, 50 bytes
+pub panel-printed : printed panel 8 8 7 50 ≡ sheet
+unfolding filled on relays allOn allOff transitionWord markOf run same linesOf body cubeOf digits numberOf fieldsFrom fieldsIn keyOf typedOf rowLine classOf ofFields lineOf openOf fitsOf readyOf finishOf judgeLines judgeOf matchesOf wordsBelow linesWords textWords readAnswer readList learnRun learnStart learnWords learnStep taken learnEnd reproduced has missing panelSize bitsWhere ruleWord head mustOn mustOff covers contains narrows rules state next observed validTransition rests spared booked least sheetWhere permits freshSheet takeSheet struckCount addedCount pullsIn applySheet decimalFrom decimal inputByte outputByte columns rowText rowsText headerText sheetText refusalLine ifRoom entryCode entryPlace learnedRun writtenRun runText printed
+panel-printed = refl
+
+-- `refused 8 at 0` for a list of 7 words, `refused 12 at 0` for 49 bytes, and nothing at all for 15, one less than that line has
+pub panel-refused : (printed panel 7 8 7 50 ≡ 114 ∷ 101 ∷ 102 ∷ 117 ∷ 115 ∷ 101 ∷ 100 ∷ 32 ∷ 56 ∷ 32 ∷ 97 ∷ 116 ∷ 32 ∷ 48 ∷ 10 ∷ []) × (printed panel 8 8 7 49 ≡ 114 ∷ 101 ∷ 102 ∷ 117 ∷ 115 ∷ 101 ∷ 100 ∷ 32 ∷ 49 ∷ 50 ∷ 32 ∷ 97 ∷ 116 ∷ 32 ∷ 48 ∷ 10 ∷ []) × (printed panel 8 8 7 15 ≡ [])
+unfolding filled on relays allOn allOff transitionWord markOf run same linesOf body cubeOf digits numberOf fieldsFrom fieldsIn keyOf typedOf rowLine classOf ofFields lineOf openOf fitsOf readyOf finishOf judgeLines judgeOf matchesOf wordsBelow linesWords textWords readAnswer readList learnRun learnStart learnWords learnStep taken learnEnd reproduced has missing panelSize bitsWhere ruleWord head mustOn mustOff covers contains narrows rules state next observed validTransition rests spared booked least sheetWhere permits freshSheet takeSheet struckCount addedCount pullsIn applySheet decimalFrom decimal inputByte outputByte columns rowText rowsText headerText sheetText refusalLine ifRoom entryCode entryPlace learnedRun writtenRun runText printed
+panel-refused = (refl, refl, refl)

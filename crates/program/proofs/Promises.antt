@@ -1,0 +1,77 @@
+-- What the contract of `run` comes to: one result, inside its room; a learned sheet is printed, and in the program's rooms never refused with 12.
+use Prim.Native.Nat.{ℕ, _+_, _*_, _≤_}
+use mathlib.Core.Path.{_≡_, refl, sym, _∙_, ap, subst}
+use mathlib.Core.List.{List, []}
+use mathlib.Core.Bool.{Bool, true, false, cond}
+use native.Mathlib.Omega.{arith}
+use native.Mathlib.Nat.{mul-le-mul}
+use lib.Dec.{leb}
+use lib.ListN.{length, take}
+use borrow.Author.Tests.{le-ltb, leb-true}
+use Rattle.recording.specs.Reading.{readAnswer, readList}
+use Rattle.learning.specs.Learn.{Run, going, refused}
+use Rattle.learning.specs.Running.{runIf}
+use Rattle.writing.specs.SheetText.{sheetText}
+use Rattle.writing.specs.Writing.{written, textLength}
+use Rattle.writing.proofs.TextLaws.{sheet-length}
+use Rattle.writing.proofs.WriteLaws.{size-small}
+use Rattle.program.specs.Program.{ifRoom, entryCode, entryPlace, learnedRun, writtenRun, runText, printed, Runs}
+use Rattle.program.proofs.LineLaws.{decimal-most, room-yes}
+use Rattle.program.proofs.LearnLaws.{Writable, learn-writable}
+
+-- any two results that satisfy the contract of `run` are equal
+pub run-unique : {t list book sheet out l l′ b b′ s s′ o o′ : List ℕ} {r r′ : ℕ} → Runs t list book sheet out l b s o r → Runs t list book sheet out l′ b′ s′ o′ r′
+    → (r ≡ r′) × (o ≡ o′) × (l ≡ l′) × (b ≡ b′) × (s ≡ s′)
+run-unique x y = (
+  x .long ∙ sym (y .long),
+  x .bytes ∙ sym (y .bytes),
+  x .list-words ∙ sym (y .list-words),
+  x .book-words ∙ sym (y .book-words),
+  x .sheet-words ∙ sym (y .sheet-words),
+)
+
+room-within : (room : ℕ) (s : List ℕ) → length (ifRoom room s) ≤ room
+unfolding ifRoom
+room-within room s = go (leb (length s) room) refl
+  where
+    go : (t : Bool) → leb (length s) room ≡ t → length (cond t s []) ≤ room
+    go true e = leb-true (length s) room e
+    go false e = omega arith
+
+-- what is printed lies in the output
+pub run-within : {t list book sheet out l b s o : List ℕ} {r : ℕ} → Runs t list book sheet out l b s o r → r ≤ length out
+unfolding printed
+run-within {out = out} x = rw (x .long) (room-within (length out) _)
+
+-- a sheet of at most 1,024 rules fits into the program's 24,576 bytes
+short-text : (n : ℕ) (s : List ℕ) → n ≤ 10 → length s ≤ 1024 → length (sheetText n s) ≤ 24576
+unfolding textLength
+short-text n s h k =
+    let a = decimal-most 1 n (omega arith) in
+    let b = decimal-most 3 (length s) (omega arith) in
+    let few : 2 * n + 2 ≤ 22 = omega arith in
+    let c : length s * (2 * n + 2) ≤ 1024 * 22 = mul-le-mul k few in
+    omega (arith, sheet-length n s)
+
+-- 12 is never given where at most 1,024 rules are learned and there is room for 24,576 bytes
+pub never-12 : (n sheetRoom room : ℕ) → sheetRoom ≤ 1024 → 24576 ≤ room → (r : Run) → Writable n sheetRoom r → writtenRun n room r ≡ r
+unfolding writtenRun
+never-12 n sheetRoom room h k (refused c p) w = refl
+never-12 n sheetRoom room h k (going b s x y) w =
+    rw (le-ltb room (length (sheetText n s)) (omega (arith, short-text n s (size-small n (w .0)) (omega (arith, w .2)))))
+
+-- read and learned, the sheet is what is printed, and in the program's rooms it is printed whole
+pub run-done : {t list book sheet out l b s o : List ℕ} {r : ℕ} → Runs t list book sheet out l b s o r
+    → length sheet ≤ 1024 → 24576 ≤ length out → entryCode t (length list) ≡ 0
+    → (book₁ sheet₁ : List ℕ) (x y : ℕ) → learnedRun t (length list) (length book) (length sheet) ≡ going book₁ sheet₁ x y
+    → (r ≡ length (sheetText (readAnswer t (length list) .n) sheet₁)) × (o ≡ written out 0 (sheetText (readAnswer t (length list) .n) sheet₁))
+unfolding printed learnedRun runText
+run-done {t = t} {list = list} {book = book} {sheet = sheet} {out = out} q h k e book₁ sheet₁ x y g =
+    let n = readAnswer t (length list) .n in
+    let w : Writable n (length sheet) (going book₁ sheet₁ x y) = subst (Writable n (length sheet)) g (learn-writable n (length sheet) (length book) (take (readAnswer t (length list) .count) (readList t (length list)))) in
+    let z : printed t (length list) (length book) (length sheet) (length out) ≡ sheetText n sheet₁ =
+    ap (λ (c : ℕ). ifRoom (length out) (runText n (runIf c (writtenRun n (length out) (learnedRun t (length list) (length book) (length sheet))) (entryPlace t (length list))))) e
+    ∙ ap (λ (p : Run). ifRoom (length out) (runText n (writtenRun n (length out) p))) g
+    ∙ ap (λ (p : Run). ifRoom (length out) (runText n p)) (never-12 n (length sheet) (length out) h k (going book₁ sheet₁ x y) w)
+    ∙ room-yes (length out) (sheetText n sheet₁) (omega (arith, short-text n sheet₁ (size-small n (w .0)) (omega (arith, w .2)))) in
+    (q .long ∙ ap length z, q .bytes ∙ ap (written out 0) z)
