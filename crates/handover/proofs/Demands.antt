@@ -10,12 +10,14 @@ use lib.Seq.{take-at, drop-at, length-take-le}
 use Rattle.table.specs.Lists.{increasing}
 use Rattle.table.specs.Surgery.{filled}
 use Rattle.table.proofs.Increasing.{increasing-unique}
+use Rattle.panel.specs.Transitions.{next}
 use Rattle.panel.proofs.Words.{rule-e, rule-i}
 use Rattle.prime.specs.Books.{union}
 use Rattle.prime.specs.Sheets.{sheetOf, joinSheet}
 use Rattle.prime.proofs.Laws.{sheetOf-good, sheetOf-members}
 use Rattle.prime.proofs.Primes.{sheetOf-prime, prime-sheetOf, join-members}
-use Rattle.prime.proofs.Books.{book-e, book-increasing, union-e, union-l, union-r, union-increasing}
+use Rattle.prime.proofs.Apply.{Booked}
+use Rattle.prime.proofs.Books.{book-e, one-word, book-increasing, union-e, union-l, union-r, union-increasing}
 use Rattle.answers.specs.Answers.{plain, done, answerIf}
 use Rattle.answers.specs.declared.Answer.{Answer}
 use Rattle.answers.proofs.Laws.{answer-done, words-done}
@@ -108,8 +110,19 @@ learn-complete n ts o l =
     (book-increasing (h .b) (book-e n (h .b) (h .read .good) .rising)) (h .read .into) (h .read .all-in) (h .read .is-sheet)
 
 -- the panel of a learn that is not refused has at most 10 relays
-learns-small : (n : ℕ) (ts : List ℕ) (o : Outcome) → Learns n ts o → n ≤ 10
+pub learns-small : (n : ℕ) (ts : List ℕ) (o : Outcome) → Learns n ts o → n ≤ 10
 learns-small n ts o l = held n ts (l .book-room) (l .sheet-room) (o .book) (o .sheet) (o .answer) (l .contract) (l .done) .read .small
+
+-- its words are valid, and no state has two successors
+pub learns-booked : (n : ℕ) (ts : List ℕ) (o : Outcome) → Learns n ts o → Booked n ts
+learns-booked n ts o l =
+    let h = held n ts (l .book-room) (l .sheet-room) (o .book) (o .sheet) (o .answer) (l .contract) (l .done) in
+    let g = book-e n (h .b) (h .read .good) in
+    record {
+      state-lt = λ t m. g .valid t (h .read .all-in t m) .state-lt;
+      next-lt = λ t m. g .valid t (h .read .all-in t m) .next-lt;
+      one-next = λ t u m k e. ap next (one-word (h .b) (g .rising) t u (h .read .all-in t m) (h .read .all-in u k) e);
+    }
 
 -- the sheet count is n less struck, and added
 pub learn-counts : (n : ℕ) (ts : List ℕ) (o : Outcome) → Learns n ts o → o .answer .«sheet_count» + o .answer .struck ≡ n + o .answer .added

@@ -1,3 +1,5 @@
 pub mod Runs
 pub mod Demands
 pub mod Bench
+pub mod Clauses
+pub mod Document000

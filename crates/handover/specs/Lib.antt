@@ -1,2 +1,3 @@
 pub mod Demands
 pub mod Bench
+pub mod Document000
