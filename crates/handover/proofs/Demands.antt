@@ -10,21 +10,20 @@ use lib.Seq.{take-at, drop-at, length-take-le}
 use Rattle.table.specs.Lists.{increasing}
 use Rattle.table.specs.Surgery.{filled}
 use Rattle.table.proofs.Increasing.{increasing-unique}
-use Rattle.panel.specs.Transitions.{next}
 use Rattle.panel.proofs.Words.{rule-e, rule-i}
 use Rattle.prime.specs.Books.{union}
 use Rattle.prime.specs.Sheets.{sheetOf, joinSheet}
 use Rattle.prime.proofs.Laws.{sheetOf-good, sheetOf-members}
 use Rattle.prime.proofs.Primes.{sheetOf-prime, prime-sheetOf, join-members}
 use Rattle.prime.proofs.Apply.{Booked}
-use Rattle.prime.proofs.Books.{book-e, one-word, book-increasing, union-e, union-l, union-r, union-increasing}
+use Rattle.prime.proofs.Books.{book-e, book-increasing, union-e, union-l, union-r, union-increasing}
 use Rattle.answers.specs.Answers.{plain, done, answerIf}
 use Rattle.answers.specs.declared.Answer.{Answer}
 use Rattle.answers.proofs.Laws.{answer-done, words-done}
 use Rattle.learning.specs.Learn.{Run, going, refused, learnRun, runAnswer, runBook, runSheet, Learned}
 use Rattle.joining.specs.Joining.{joinedBook, joinedSheet, joinCode, joinAnswer, bookAfter, sheetAfter, Joined}
 use Rattle.handover.specs.Demands.{Prime, Outcome, bookUsed, sheetUsed, ZeroFrom, Complete, Learns, Same, Divided, lent, Joins}
-use Rattle.handover.proofs.Runs.{Read, After, run-read}
+use Rattle.handover.proofs.Runs.{Read, After, read-booked, run-read}
 
 -- ---- a table at the front of a slice, and 0 in every word beyond
 
@@ -98,36 +97,31 @@ held n ts bookRoom sheetRoom book sheet r l z =
     go (learnRun n bookRoom sheetRoom ts) (run-read n bookRoom sheetRoom ts) (l .answer) (l .book-words) (l .sheet-words)
   where
     go : (q : Run) → After n ts q → r ≡ runAnswer q → book ≡ runBook bookRoom q → sheet ≡ runSheet sheetRoom q → Held n ts bookRoom sheetRoom book sheet r
-    go (refused c p) f e eb es = absurd (f (sym (ap (λ (a : Answer). a .code) e) ∙ z))
+    go (refused c p) f e eb es = absurd (omega (arith, f .0, ap (λ (a : Answer). a .code) e, z))
     go (going b s x y) f e eb es = record { b = b; s = s; x = x; y = y; read = f; answers = e; books = eb; sheets = es }
 
 -- demand 2: what a learn of ts leaves is the complete result for ts
 pub learn-complete : (n : ℕ) (ts : List ℕ) (o : Outcome) → Learns n ts o → Complete n ts o
 learn-complete n ts o l =
-    let h = held n ts (l .book-room) (l .sheet-room) (o .book) (o .sheet) (o .answer) (l .contract) (l .done) in
+    let h = held n ts (l .book-room) (l .sheet-room) (o .book) (o .sheet) (o .answer) (l .contract) (l .learned) in
     complete n (h .read .small) ts (h .b) (h .s) o (l .book-room) (l .sheet-room)
     (h .books) (ap (λ (a : Answer). a .«book_count») (h .answers)) (h .sheets) (ap (λ (a : Answer). a .«sheet_count») (h .answers))
     (book-increasing (h .b) (book-e n (h .b) (h .read .good) .rising)) (h .read .into) (h .read .all-in) (h .read .is-sheet)
 
 -- the panel of a learn that is not refused has at most 10 relays
 pub learns-small : (n : ℕ) (ts : List ℕ) (o : Outcome) → Learns n ts o → n ≤ 10
-learns-small n ts o l = held n ts (l .book-room) (l .sheet-room) (o .book) (o .sheet) (o .answer) (l .contract) (l .done) .read .small
+learns-small n ts o l = held n ts (l .book-room) (l .sheet-room) (o .book) (o .sheet) (o .answer) (l .contract) (l .learned) .read .small
 
 -- its words are valid, and no state has two successors
 pub learns-booked : (n : ℕ) (ts : List ℕ) (o : Outcome) → Learns n ts o → Booked n ts
 learns-booked n ts o l =
-    let h = held n ts (l .book-room) (l .sheet-room) (o .book) (o .sheet) (o .answer) (l .contract) (l .done) in
-    let g = book-e n (h .b) (h .read .good) in
-    record {
-      state-lt = λ t m. g .valid t (h .read .all-in t m) .state-lt;
-      next-lt = λ t m. g .valid t (h .read .all-in t m) .next-lt;
-      one-next = λ t u m k e. ap next (one-word (h .b) (g .rising) t u (h .read .all-in t m) (h .read .all-in u k) e);
-    }
+    let h = held n ts (l .book-room) (l .sheet-room) (o .book) (o .sheet) (o .answer) (l .contract) (l .learned) in
+    read-booked n ts (h .b) (h .s) (h .x) (h .y) (h .read)
 
 -- the sheet count is n less struck, and added
 pub learn-counts : (n : ℕ) (ts : List ℕ) (o : Outcome) → Learns n ts o → o .answer .«sheet_count» + o .answer .struck ≡ n + o .answer .added
 learn-counts n ts o l =
-    let h = held n ts (l .book-room) (l .sheet-room) (o .book) (o .sheet) (o .answer) (l .contract) (l .done) in
+    let h = held n ts (l .book-room) (l .sheet-room) (o .book) (o .sheet) (o .answer) (l .contract) (l .learned) in
     omega (
       arith,
       h .read .counts,
@@ -135,6 +129,15 @@ learn-counts n ts o l =
       ap (λ (a : Answer). a .struck) (h .answers),
       ap (λ (a : Answer). a .added) (h .answers),
     )
+
+-- learn's own check never refuses: code 10 is never given
+pub never-ten : (n : ℕ) (ts : List ℕ) (bookRoom sheetRoom : ℕ) (book sheet : List ℕ) (r : Answer) → Learned n ts bookRoom sheetRoom book sheet r → r .code ≤ 9
+unfolding runAnswer
+never-ten n ts bookRoom sheetRoom book sheet r l = go (learnRun n bookRoom sheetRoom ts) (run-read n bookRoom sheetRoom ts) (l .answer)
+  where
+    go : (q : Run) → After n ts q → r ≡ runAnswer q → r .code ≤ 9
+    go (refused c p) f e = omega (arith, f .1, ap (λ (a : Answer). a .code) e)
+    go (going b s x y) f e = omega (arith, ap (λ (a : Answer). a .code) e)
 
 -- ---- one complete result
 
@@ -190,7 +193,7 @@ join-complete n small ts ps qs a b o v c d j =
     zero-code =
         sym (join-code code (length (joinedBook (lent a) (lent b))) (length (joinedSheet n (lent a) (lent b))))
         ∙ sym (ap (λ (q : Answer). q .code) (j .contract .answer))
-        ∙ j .done
+        ∙ j .joined
 
     answers : o .answer ≡ done (length (joinedBook (lent a) (lent b))) (length (joinedSheet n (lent a) (lent b))) 0 0
     answers = j .contract .answer ∙ answer-done code (done (length (joinedBook (lent a) (lent b))) (length (joinedSheet n (lent a) (lent b))) 0 0) (plain code 0 0 0) zero-code

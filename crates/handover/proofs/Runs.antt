@@ -1,5 +1,5 @@
 -- Learn's run, word by word: while nothing is refused, the book has the words read, and the sheet is theirs.
-use mathlib.Core.Path.{_≡_, refl, sym, ap, _∙_, subst}
+use mathlib.Core.Path.{_≡_, refl, sym, ap, ap₂, _∙_, subst}
 use mathlib.Core.Logic.{_⊎_, inl, inr}
 use mathlib.Core.Bool.{Bool, true, false, not}
 use mathlib.Core.List.{List, [], _∷_, _++_, List·Memᴰ as Mem, List·Memᴰ·head as here, List·Memᴰ·tail as there, List·Memᴰ·cases-cons, List·Memᴰ·append-cases, List·Memᴰ·eq-of-singleton, Memᴰ·append-left, Memᴰ·append-right, Memᴰ·cast, append-assoc, append-nil}
@@ -7,13 +7,17 @@ use Prim.Native.Nat.{ℕ, _+_, _≤_}
 use native.Mathlib.Omega.{arith}
 use lib.Dec.{ltb}
 use lib.ListN.{length}
+use borrow.Author.Tests.{eq-eqb, le-ltb}
 use Rattle.table.specs.Lists.{has, insert, increasing}
+use Rattle.table.specs.Surgery.{oneMoreIf}
 use Rattle.table.proofs.Counting.{has-e}
 use Rattle.table.proofs.Inserting.{insert-e, insert-new, insert-old}
 use Rattle.panel.specs.Masks.{panelSize}
-use Rattle.panel.specs.Transitions.{validTransition}
+use Rattle.panel.specs.Transitions.{state, next, validTransition}
 use Rattle.prime.specs.Books.{goodBook, booked}
-use Rattle.prime.specs.Sheets.{sheetOf, takeSheet, freshSheet, struckCount, addedCount}
+use Rattle.prime.specs.Sheets.{sheetOf, applySheet, takeSheet, freshSheet, struckCount, addedCount}
+use Rattle.prime.proofs.Books.{book-e, one-word}
+use Rattle.prime.proofs.Apply.{Booked, reproduces}
 use Rattle.prime.proofs.Laws.{sheetOf-good, sheetOf-members, take-sheetOf, take-good, fresh-sheetOf}
 use Rattle.heirs.proofs.Counts.{counts-balance}
 use Rattle.book.proofs.Finding.{good-insert}
@@ -30,10 +34,20 @@ pub record Read (n : ℕ) (ts b s : List ℕ) (x y : ℕ) : Type 0 where
   pub is-sheet : s ≡ sheetOf n ts
   pub counts : length s + x ≡ n + y
 
--- a run after the words ts; a refusal has a code other than 0
+-- a run after the words ts; a refusal has a code from 1 to 9
 abbrev pub After : ℕ → List ℕ → Run → Type 0
-After n ts (refused c p) = c ≡ 0 → ⊥
+After n ts (refused c p) = (1 ≤ c) × (c ≤ 9)
 After n ts (going b s x y) = Read n ts b s x y
+
+-- the words read are valid, and no state has two successors
+pub read-booked : (n : ℕ) (ts b s : List ℕ) (x y : ℕ) → Read n ts b s x y → Booked n ts
+read-booked n ts b s x y l =
+    let g = book-e n b (l .good) in
+    record {
+      state-lt = λ t m. g .valid t (l .all-in t m) .state-lt;
+      next-lt = λ t m. g .valid t (l .all-in t m) .next-lt;
+      one-next = λ t u m k e. ap next (one-word b (g .rising) t u (l .all-in t m) (l .all-in u k) e);
+    }
 
 -- ---- one word
 
@@ -99,25 +113,22 @@ module _ (n bookRoom sheetRoom k t : ℕ) (ts b s : List ℕ) (x y : ℕ) (l : R
   abbrev fit : Run
   fit = going (insert t b) new (x + struckCount s new) (y + addedCount s new)
 
-  nonzero : (c : ℕ) → 1 ≤ c → c ≡ 0 → ⊥
-  nonzero c p e = omega (arith, p, e)
-
   step : After n (ts ++ t ∷ []) (learnStep n bookRoom sheetRoom k t (going b s x y))
   unfolding learnStep taken
   step = go6 (validTransition n t) refl
     where
       go9 : (a : Bool) → Read n (ts ++ t ∷ []) (insert t b) new (x + struckCount s new) (y + addedCount s new) → After n (ts ++ t ∷ []) (choose a (refused 9 k) fit)
-      go9 true h = nonzero 9 (omega arith)
+      go9 true h = (omega arith, omega arith)
       go9 false h = h
 
       go8 : (a : Bool) → Read n (ts ++ t ∷ []) (insert t b) new (x + struckCount s new) (y + addedCount s new)
           → After n (ts ++ t ∷ []) (choose a (refused 8 k) (choose (ltb sheetRoom (length new)) (refused 9 k) fit))
-      go8 true h = nonzero 8 (omega arith)
+      go8 true h = (omega arith, omega arith)
       go8 false h = go9 (ltb sheetRoom (length new)) h
 
       go7 : validTransition n t ≡ true → (a : Bool) → booked t b ≡ a
           → After n (ts ++ t ∷ []) (choose a (refused 7 k) (choose (ltb bookRoom (length b + 1)) (refused 8 k) (choose (ltb sheetRoom (length new)) (refused 9 k) fit)))
-      go7 ok true e = nonzero 7 (omega arith)
+      go7 ok true e = (omega arith, omega arith)
       go7 ok false e = go8 (ltb bookRoom (length b + 1)) (one-more ok e)
 
       go1 : validTransition n t ≡ true → (a : Bool) → has t b ≡ a
@@ -128,7 +139,7 @@ module _ (n bookRoom sheetRoom k t : ℕ) (ts b s : List ℕ) (x y : ℕ) (l : R
       go6 : (a : Bool) → validTransition n t ≡ a
           → After n (ts ++ t ∷ []) (choose (not a) (refused 6 k) (choose (has t b) (going b s x y) (choose (booked t b) (refused 7 k) (choose (ltb bookRoom (length b + 1)) (refused 8 k) (choose (ltb sheetRoom (length new)) (refused 9 k) fit)))))
       go6 true e = go1 e (has t b) refl
-      go6 false e = nonzero 6 (omega arith)
+      go6 false e = (omega arith, omega arith)
 
 -- ---- all words
 
@@ -150,7 +161,7 @@ module _ (n bookRoom sheetRoom : ℕ) where
   start-run = go2 (panelSize n) refl
     where
       go9 : n ≤ 10 → (a : Bool) → After n [] (choose a (refused 9 0) (going [] (freshSheet n) 0 0))
-      go9 l true = λ e. omega (arith, e)
+      go9 l true = (omega arith, omega arith)
       go9 l false = record {
         small = l;
         into = λ t m. m;
@@ -162,19 +173,30 @@ module _ (n bookRoom sheetRoom : ℕ) where
 
       go2 : (a : Bool) → panelSize n ≡ a → After n [] (choose (not a) (refused 2 0) (choose (ltb sheetRoom n) (refused 9 0) (going [] (freshSheet n) 0 0)))
       go2 true e = go9 (size-of n e .1) (ltb sheetRoom n)
-      go2 false e = λ p. omega (arith, p)
+      go2 false e = (omega arith, omega arith)
 
-  -- the check at the end keeps a run or refuses it
-  end-run : (ts : List ℕ) (r : Run) → After n ts r → After n ts (learnEnd n r)
+  -- ---- the check at the end passes
+
+  reproduced-all : (s b : List ℕ) → ((t : ℕ) → Mem t b → applySheet n s (state t) ≡ next t) → reproduced n s b ≡ length b
+  unfolding reproduced
+  reproduced-all s [] h = refl
+  reproduced-all s (t ∷ b) h =
+      ap₂ oneMoreIf (eq-eqb (applySheet n s (state t)) (next t) (h t (here refl))) (reproduced-all s b (λ u m. h u (there m)))
+
+  end-run : (ts : List ℕ) (r : Run) → After n ts r → learnEnd n r ≡ r
   unfolding learnEnd
-  end-run ts (refused c p) f = f
-  end-run ts (going b s x y) f = go (ltb (reproduced n s b) (length b))
-    where
-      go : (a : Bool) → After n ts (choose a (refused 10 (reproduced n s b)) (going b s x y))
-      go true = λ e. omega (arith, e)
-      go false = f
+  end-run ts (refused c p) f = refl
+  end-run ts (going b s x y) f =
+      ap (λ (a : Bool). choose a (refused 10 (reproduced n s b)) (going b s x y))
+      (le-ltb (reproduced n s b) (length b) (omega (
+        arith,
+        reproduced-all s b (λ t m.
+            ap (λ (z : List ℕ). applySheet n z (state t)) (f .is-sheet) ∙ reproduces n (f .small) ts (read-booked n ts b s x y f) t (f .into t m)),
+      )))
 
   -- learn that is not refused has read all words of the list
   pub run-read : (ts : List ℕ) → After n ts (learnRun n bookRoom sheetRoom ts)
   unfolding learnRun
-  run-read ts = end-run ts (learnWords n bookRoom sheetRoom 0 ts (learnStart n sheetRoom)) (words-run 0 [] ts (learnStart n sheetRoom) start-run)
+  run-read ts =
+      let f = words-run 0 [] ts (learnStart n sheetRoom) start-run in
+      subst (After n ts) (sym (end-run ts (learnWords n bookRoom sheetRoom 0 ts (learnStart n sheetRoom)) f)) f

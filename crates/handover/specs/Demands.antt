@@ -65,7 +65,7 @@ pub record Learns (n : ℕ) (ts : List ℕ) (o : Outcome) : Type 0 where
   pub book-room : ℕ
   pub sheet-room : ℕ
   pub contract : Learned n ts book-room sheet-room (o .book) (o .sheet) (o .answer)
-  pub done : o .answer .code ≡ 0
+  pub learned : o .answer .code ≡ 0
 
 -- ---- demand 3
 
@@ -91,4 +91,4 @@ pub record Joins (n : ℕ) (a b o : Outcome) : Type 0 where
   pub book-before : List ℕ
   pub sheet-before : List ℕ
   pub contract : Joined n (lent a) (lent b) book-before sheet-before (o .answer) (o .book) (o .sheet)
-  pub done : o .answer .code ≡ 0
+  pub joined : o .answer .code ≡ 0
