@@ -1,7 +1,7 @@
 -- Rule words and the rules of document 000: covers, contains and narrows in its words, and the word of each of its rules.
 use mathlib.Core.Path.{_≡_, refl, sym, ap, ap₂, _∙_, subst}
 use mathlib.Core.Logic.{_⊎_, inl, inr}
-use mathlib.Core.Bool.{Bool, true, false, _&&_, _||_, false≢true}
+use mathlib.Core.Bool.{Bool, true, false, _||_, false≢true}
 use mathlib.Core.List.{List, [], _∷_, List·Memᴰ as Mem, List·Memᴰ·head as here, List·Memᴰ·tail as there, List·Memᴰ·cases-cons, List·Memᴰ·not-nil}
 use Prim.Native.Nat.{ℕ, _^_, _≤_, _<_}
 use lib.Dec.{eqb}
@@ -11,7 +11,7 @@ use Rattle.panel.specs.Masks.{on, relays, bitsWhere}
 use Rattle.panel.specs.Rules.{ruleWord, head, mustOn, mustOff, covers, contains, narrows}
 use Rattle.panel.proofs.Masks.{within, apart, within-on, apart-on, on-within, on-apart, on-below, relays-i, bits-lt, bits-on}
 use Rattle.panel.proofs.Words.{Rule, covers-e, covers-i, contains-masks, mustOn-small, mustOff-small, mask-small, head-word, mustOn-word, mustOff-word}
-use Rattle.handover.specs.Document000.{Literal, pos, neg, Clause, Met, Proper, Subsumes, SameRule, litIf, literals, ruleOf}
+use Rattle.handover.specs.Document000.{Literal, pos, neg, atomOf, Clause, Met, Proper, Subsumes, SameRule, litIf, literals, ruleOf}
 
 -- ---- the literals of a rule word
 
@@ -19,10 +19,6 @@ use Rattle.handover.specs.Document000.{Literal, pos, neg, Clause, Met, P
 stands : ℕ → Literal → Bool
 stands w (pos p) = on p (mustOn w)
 stands w (neg p) = on p (mustOff w)
-
-atomOf : Literal → ℕ
-atomOf (pos p) = p
-atomOf (neg p) = p
 
 lit-e : (a : Bool) (l : Literal) (ls : List Literal) {k : Literal} → Mem k (litIf a l ls) → ((k ≡ l) × (a ≡ true)) ⊎ Mem k ls
 lit-e true l ls m = go (List·Memᴰ·cases-cons m)
@@ -54,7 +50,7 @@ literals-e (v ∷ vs) w l m = go (lit-e (on v (mustOn w)) (pos v) (litIf (on v (
     go (inr k) rec = go₂ (lit-e (on v (mustOff w)) (neg v) (literals vs w) k) rec
 
 literals-i : {vs : List ℕ} (w : ℕ) (l : Literal) → Mem (atomOf l) vs → stands w l ≡ true → Mem l (literals vs w)
-unfolding literals stands atomOf
+unfolding literals stands
 literals-i {vs = v ∷ vs} w (pos p) (here e) h = lit-here (on v (mustOn w)) (pos v) _ (ap pos e) (subst (λ (x : ℕ). on x (mustOn w) ≡ true) e h)
 literals-i {vs = v ∷ vs} w (neg p) (here e) h = lit-there (on v (mustOn w)) (pos v) _ (lit-here (on v (mustOff w)) (neg v) _ (ap neg e) (subst (λ (x : ℕ). on x (mustOff w) ≡ true) e h))
 literals-i {vs = v ∷ vs} w (pos p) (there m) h = lit-there (on v (mustOn w)) (pos v) _ (lit-there (on v (mustOff w)) (neg v) _ (literals-i w (pos p) m h))
@@ -62,7 +58,7 @@ literals-i {vs = v ∷ vs} w (neg p) (there m) h = lit-there (on v (mustOn w)) (
 
 -- a relay that stands in a body is one of the ten
 atom-few : (w : ℕ) (l : Literal) → stands w l ≡ true → atomOf l < 10
-unfolding stands atomOf
+unfolding stands
 atom-few w (pos p) h = on-below 10 (mustOn w) p (mustOn-small w) h
 atom-few w (neg p) h = on-below 10 (mustOff w) p (mustOff-small w) h
 

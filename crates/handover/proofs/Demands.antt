@@ -2,7 +2,7 @@
 use mathlib.Core.Path.{_≡_, refl, sym, ap, ap₂, _∙_, subst}
 use mathlib.Core.Logic.{_⊎_, inl, inr}
 use mathlib.Core.Bool.{true}
-use mathlib.Core.List.{List, _++_, List·Memᴰ as Mem}
+use mathlib.Core.List.{List, List·Memᴰ as Mem}
 use Prim.Native.Nat.{ℕ, zero, suc, _+_, _-_, _≤_}
 use native.Mathlib.Omega.{arith}
 use lib.ListN.{length, take, drop, replicate, length-append, length-replicate}
@@ -21,8 +21,8 @@ use Rattle.answers.specs.Answers.{plain, done, answerIf}
 use Rattle.answers.specs.declared.Answer.{Answer}
 use Rattle.answers.proofs.Laws.{answer-done, words-done}
 use Rattle.learning.specs.Learn.{Run, going, refused, learnRun, runAnswer, runBook, runSheet, Learned}
-use Rattle.joining.specs.Joining.{joinedBook, joinedSheet, joinCode, joinAnswer, bookAfter, sheetAfter, Joined}
-use Rattle.handover.specs.Demands.{Prime, Outcome, bookUsed, sheetUsed, ZeroFrom, Complete, Learns, Same, Divided, lent, Joins}
+use Rattle.joining.specs.Joining.{joinedBook, joinedSheet, joinCode, joinAnswer, bookAfter, sheetAfter}
+use Rattle.handover.specs.Demands.{Outcome, bookUsed, sheetUsed, ZeroFrom, Complete, Learns, Same, Divided, lent, Joins}
 use Rattle.handover.proofs.Runs.{Read, After, read-booked, run-read}
 
 -- ---- a table at the front of a slice, and 0 in every word beyond
@@ -71,12 +71,12 @@ module _ (n : ℕ) (small : n ≤ 10) (ts b s : List ℕ) (o : Outcome) (bookRoo
         let k = sheetOf-prime n small ts w (subst (λ (z : List ℕ). Mem w z) used-sheet m) in
         record {
           is-rule = rule-i n w (k .0);
-          is-fine = k .1 .is-consistent;
+          is-consistent = k .1 .is-consistent;
           no-other = λ r v e c f. k .1 .no-other r (rule-e n r v) (sym e) c f;
         };
     all-prime = λ w p.
         subst (λ (z : List ℕ). Mem w z) (sym used-sheet)
-        (prime-sheetOf n small ts w (rule-e n w (p .is-rule)) (record { is-consistent = p .is-fine; no-other = λ r v e c f. p .no-other r (rule-i n r v) (sym e) c f }));
+        (prime-sheetOf n small ts w (rule-e n w (p .is-rule)) (record { is-consistent = p .is-consistent; no-other = λ r v e c f. p .no-other r (rule-i n r v) (sym e) c f }));
     sheet-rest = rest-zero (o .sheet) s sheetRoom (o .answer .«sheet_count») es cs;
   }
 

@@ -1,33 +1,30 @@
 -- Document 000's definitions 4 to 7 and ours say the same, and what learn leaves is its complete prime program.
 use mathlib.Core.Path.{_≡_, refl, sym, ap, _∙_, subst}
-use mathlib.Core.Logic.{_⊎_, inl, inr}
-use mathlib.Core.Bool.{Bool, true}
-use mathlib.Core.List.{List, [], _∷_, List·Memᴰ as Mem, List·Memᴰ·head as here, List·Memᴰ·tail as there, List·Memᴰ·not-nil}
+use mathlib.Core.Bool.{true}
+use mathlib.Core.List.{List, _∷_, List·Memᴰ as Mem, List·Memᴰ·head as here, List·Memᴰ·tail as there}
 use Prim.Native.Nat.{ℕ, _≤_, _<_}
 use native.Mathlib.Nat.{lt-of-lt-of-le}
 use Rattle.table.proofs.Basics.{passes}
 use Rattle.panel.specs.Masks.{on}
-use Rattle.panel.specs.Rules.{head, covers, contains, narrows}
+use Rattle.panel.specs.Rules.{head}
 use Rattle.panel.specs.Transitions.{state, next}
 use Rattle.panel.proofs.Words.{Rule, rule-e, rule-i, narrows-antisym}
-use Rattle.prime.specs.Books.{goodBook}
-use Rattle.prime.specs.Sheets.{consistent, sheetOf, pullsIn, applySheet}
-use Rattle.prime.proofs.Books.{book-e, one-word}
+use Rattle.prime.specs.Sheets.{pullsIn, applySheet}
 use Rattle.prime.proofs.Laws.{spared-e, spared-i, consistent-e, consistent-i}
-use Rattle.prime.proofs.Apply.{consistent-covers, covers-consistent, pullsIn-e, pullsIn-i, apply-on, rests-e, rests-i, Booked, reproduces}
-use Rattle.handover.specs.Demands.{Fine, Prime, Outcome, sheetUsed, Complete, Learns}
-use Rattle.handover.specs.Document000.{Literal, pos, neg, Clause, Met, Follows, Proper, Subsumes, SameRule, ConsistentWith, PrimeRule, Realizes, CompletePrime, ruleOf, programOf}
+use Rattle.prime.proofs.Apply.{consistent-covers, covers-consistent, pullsIn-e, pullsIn-i, apply-on, rests-e, rests-i, reproduces}
+use Rattle.handover.specs.Demands.{Consistent, Prime, Outcome, sheetUsed, Complete, Learns}
+use Rattle.handover.specs.Document000.{pos, neg, Clause, Met, Follows, Proper, Subsumes, SameRule, ConsistentWith, PrimeRule, CompletePrime, ruleOf, programOf}
 use Rattle.handover.proofs.Demands.{learn-complete, learns-small, learns-booked}
-use Rattle.handover.proofs.Clauses.{covers-met, met-covers, contains-within, within-contains, narrows-subsumes, subsumes-narrows, rule-proper, wordOf, word-rule, word-same}
+use Rattle.handover.proofs.Clauses.{covers-met, met-covers, contains-within, within-contains, subsumes-narrows, rule-proper, wordOf, word-rule, word-same}
 
 -- ---- consistency (definition 4)
 
-pub fine-consistent : (es : List ℕ) (w : ℕ) → head w < 10 → Fine es w → ConsistentWith es (ruleOf w)
-fine-consistent es w l f t m c =
+pub consistent-with : (es : List ℕ) (w : ℕ) → head w < 10 → Consistent es w → ConsistentWith es (ruleOf w)
+consistent-with es w l f t m c =
     passes (on (head w) (next t)) (λ o. spared-e t w (consistent-e es w (covers-consistent es w f) m) (rests-i t (head w) l o) (met-covers w (state t) c))
 
-pub consistent-fine : (es : List ℕ) (w : ℕ) → ConsistentWith es (ruleOf w) → Fine es w
-consistent-fine es w f =
+pub with-consistent : (es : List ℕ) (w : ℕ) → ConsistentWith es (ruleOf w) → Consistent es w
+with-consistent es w f =
     consistent-covers es w (consistent-i es w (λ t m. spared-i t w (λ d c. rests-e t (head w) d (f t m (covers-met w (state t) c)))))
 
 -- ---- one rule
@@ -65,7 +62,7 @@ module _ (n : ℕ) (small : n ≤ 10) where
   -- a rule word is prime in our words exactly if its rule is a prime rule in the document's
   pub prime-rule : (es : List ℕ) (w : ℕ) → Prime n es w → PrimeRule es (ruleOf w)
   prime-rule es w p = record {
-    is-consistent = fine-consistent es w (rule-few w k) (p .is-fine);
+    is-consistent = consistent-with es w (rule-few w k) (p .is-consistent);
     no-other = λ S c a. other S c a (subsumes-proper (ruleOf w) S a (rule-proper n small w k));
   }
     where
@@ -79,16 +76,16 @@ module _ (n : ℕ) (small : n ≤ 10) where
           let into : Subsumes (ruleOf r) (ruleOf w) = subsumes-trans (ruleOf r) S (ruleOf w) (same .1) a in
           let e : r ≡ w =
           p .no-other r (rule-i n r (word-rule n small S g)) (into .one-head) (within-contains w r (into .within))
-          (consistent-fine es r (consistent-subsumed es S (ruleOf r) (same .0) c)) in
+          (with-consistent es r (consistent-subsumed es S (ruleOf r) (same .0) c)) in
           subst (λ (x : ℕ). SameRule S (ruleOf x)) e same
 
   pub rule-prime : (es : List ℕ) (w : ℕ) → Rule n w → PrimeRule es (ruleOf w) → Prime n es w
   rule-prime es w k p = record {
     is-rule = rule-i n w k;
-    is-fine = consistent-fine es w (p .is-consistent);
+    is-consistent = with-consistent es w (p .is-consistent);
     no-other = λ r v e c f.
         let s : Subsumes (ruleOf r) (ruleOf w) = record { one-head = e; within = contains-within w r c } in
-        let q = p .no-other (ruleOf r) (fine-consistent es r (rule-few r (rule-e n r v)) f) s in
+        let q = p .no-other (ruleOf r) (consistent-with es r (rule-few r (rule-e n r v)) f) s in
         narrows-antisym r w (subsumes-narrows r w (q .1)) (subsumes-narrows w r s);
   }
 

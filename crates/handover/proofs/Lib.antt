@@ -3,3 +3,4 @@ pub mod Demands
 pub mod Bench
 pub mod Clauses
 pub mod Document000
+pub mod Specializations

@@ -15,14 +15,14 @@ use Rattle.joining.specs.Joining.{Piece, piece, Joined}
 -- ---- prime, for the words ts themselves
 
 -- the body of w covers no state that is negative for its head in ts
-abbrev pub Fine : List ℕ → ℕ → Type 0
-Fine ts w = (i : ℕ) → negative ts (head w) i ≡ true → covers w i ≡ true → ⊥
+abbrev pub Consistent : List ℕ → ℕ → Type 0
+Consistent ts w = (i : ℕ) → negative ts (head w) i ≡ true → covers w i ≡ true → ⊥
 
 -- w is a rule of the panel whose body is consistent, and no other body that it contains is consistent
 pub record Prime (n : ℕ) (ts : List ℕ) (w : ℕ) : Type 0 where
   pub is-rule : validRule n w ≡ true
-  pub is-fine : Fine ts w
-  pub no-other : (r : ℕ) → validRule n r ≡ true → head r ≡ head w → contains w r ≡ true → Fine ts r → r ≡ w
+  pub is-consistent : Consistent ts w
+  pub no-other : (r : ℕ) → validRule n r ≡ true → head r ≡ head w → contains w r ≡ true → Consistent ts r → r ≡ w
 
 -- ---- what a call leaves
 

@@ -1,6 +1,6 @@
--- The definitions of document 000 in its own words: rules, T_P, definition 1 (subsumption), 4 (consistency), 5 and 6 (prime rules), 7 (the complete prime program).
--- Its atoms are the relays; an interpretation is a state, that is the set of the relays that are on; E is a list of transition words.
+-- Definitions 1, 4 to 7 and 9 of document 000 in its own words; an atom is a relay, an interpretation a state (the set of relays that are on), E a list of transition words.
 use mathlib.Core.Path.{_≡_}
+use mathlib.Core.Logic.{_⊎_}
 use mathlib.Core.Bool.{Bool, true, false}
 use mathlib.Core.List.{List, [], _∷_, List·Memᴰ as Mem}
 use Prim.Native.Nat.{ℕ, _<_}
@@ -14,6 +14,10 @@ use Rattle.panel.specs.Transitions.{state, next}
 pub data Literal : Type 0 where
   pos : (atom : ℕ) → Literal
   neg : (atom : ℕ) → Literal
+
+abbrev pub atomOf : Literal → ℕ
+atomOf (pos p) = p
+atomOf (neg p) = p
 
 -- a rule R: its head h(R), and b(R), the literals in its body
 pub record Clause : Type 0 where
@@ -69,6 +73,27 @@ pub record CompletePrime (n : ℕ) (es : List ℕ) (ps : List Clause) : Type 0 w
   pub realizes : Realizes n es ps
   pub only-prime : (R : Clause) → Mem R ps → Proper n R × PrimeRule es R
   pub all-prime : (R : Clause) → Proper n R → PrimeRule es R → (S : Clause) × Mem S ps × SameRule S R
+
+-- ---- least specialization
+
+abbrev pub negated : Literal → Literal
+negated (pos p) = neg p
+negated (neg p) = pos p
+
+-- the rule that is inferred from the state i: its body has each of the n atoms as it is in i
+pub record Inferred (n i : ℕ) (S : Clause) : Type 0 where
+  pub all-true : Met (S .b) i
+  pub atom-in : (l : Literal) → Mem l (S .b) → atomOf l < n
+  pub each-atom : (l : Literal) → atomOf l < n → True l i → Mem l (S .b)
+
+-- definition 9: T is the rule h(R) ← b(R) ∧ ¬l of the least specialization of R over S, l being in b(S) and not in b(R)
+pub record Specializes (R S : Clause) (l : Literal) (T : Clause) : Type 0 where
+  pub in-S : Mem l (S .b)
+  pub not-in-R : Mem l (R .b) → ⊥
+  pub one-head : T .h ≡ R .h
+  pub keeps : (k : Literal) → Mem k (R .b) → Mem k (T .b)
+  pub adds : Mem (negated l) (T .b)
+  pub nothing-else : (k : Literal) → Mem k (T .b) → Mem k (R .b) ⊎ (k ≡ negated l)
 
 -- ---- rule words as rules of the document
 
