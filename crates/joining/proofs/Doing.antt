@@ -1,11 +1,12 @@
 -- What code 0 hands to the writing, and what the call has done when it returns.
 use mathlib.Core.Path.{_≡_, refl, sym, ap, ap₂, _∙_}
 use mathlib.Core.Bool.{true, not}
-use mathlib.Core.List.{List, _++_}
-use Prim.Native.Nat.{ℕ, _-_, _≤_}
-use lib.ListN.{length, replicate}
+use mathlib.Core.List.{List}
+use Prim.Native.Nat.{ℕ, _≤_}
+use lib.ListN.{length}
 use lib.Seq.{length-take-le}
-use Rattle.table.specs.Surgery.{clearedFrom, filled, Holds}
+use Rattle.table.specs.Surgery.{clearedFrom, Holds}
+use Rattle.table.proofs.Tables.{holds-filled}
 use Rattle.panel.specs.Masks.{panelSize}
 use Rattle.prime.specs.Books.{statesUp}
 use Rattle.prime.specs.Sheets.{goodSheet}
@@ -13,35 +14,32 @@ use Rattle.prime.proofs.Books.{book-e}
 use Rattle.answers.specs.Answers.{plain, done}
 use Rattle.answers.specs.declared.Answer.{Answer}
 use Rattle.answers.proofs.Laws.{answer-refused, words-refused, answer-done, words-done}
-use Rattle.joining.specs.Joining.{Piece, bookOf, sheetOf, joinedBook, joinedSheet, joinCode, joinAnswer, bookAfter, sheetAfter, Fills, Joined, GoodPieces, Joinable}
+use Rattle.joining.specs.Joining.{Piece, bookIn, sheetIn, joinedBook, joinedSheet, joinCode, joinAnswer, bookAfter, sheetAfter, Fills, Joined, GoodPieces, Joinable}
 use Rattle.joining.proofs.Judging.{size-in}
 
 -- ---- what counting and writing ask for
 
 module _ (n : ℕ) (a b : Piece) (g : GoodPieces n a b) where
-  pub books-rise : (statesUp (bookOf a) ≡ true) × (statesUp (bookOf b) ≡ true)
-  books-rise = (book-e n (bookOf a) (g .left .good-book) .rising, book-e n (bookOf b) (g .right .good-book) .rising)
+  pub books-rise : (statesUp (bookIn a) ≡ true) × (statesUp (bookIn b) ≡ true)
+  books-rise = (book-e n (bookIn a) (g .left .good-book) .rising, book-e n (bookIn b) (g .right .good-book) .rising)
 
-  pub sheets-good : (n ≤ 10) × (goodSheet n (sheetOf a) ≡ true) × (goodSheet n (sheetOf b) ≡ true)
+  pub sheets-good : (n ≤ 10) × (goodSheet n (sheetIn a) ≡ true) × (goodSheet n (sheetIn b) ≡ true)
   sheets-good = (size-in n (panelSize n) refl (ap not (g .size)), g .left .good-sheet, g .right .good-sheet)
 
 module _ (n : ℕ) (a b : Piece) (bookRoom sheetRoom : ℕ) (j : Joinable n a b bookRoom sheetRoom) where
-  pub book-ready : (statesUp (bookOf a) ≡ true) × (statesUp (bookOf b) ≡ true) × (length (joinedBook a b) ≤ bookRoom)
+  pub book-ready : (statesUp (bookIn a) ≡ true) × (statesUp (bookIn b) ≡ true) × (length (joinedBook a b) ≤ bookRoom)
   book-ready = let up = books-rise n a b (j .pieces) in (up .0, up .1, j .book-fits)
 
-  pub sheet-ready : (n ≤ 10) × (goodSheet n (sheetOf a) ≡ true) × (goodSheet n (sheetOf b) ≡ true) × (length (joinedSheet n a b) ≤ sheetRoom)
+  pub sheet-ready : (n ≤ 10) × (goodSheet n (sheetIn a) ≡ true) × (goodSheet n (sheetIn b) ≡ true) × (length (joinedSheet n a b) ≤ sheetRoom)
   sheet-ready = let good = sheets-good n a b (j .pieces) in (good .0, good .1, good .2, j .sheet-fits)
 
 -- ---- a table written to the front of a slice, and the rest cleared
 
 pub holds-fills : (s t tab : List ℕ) (r room : ℕ) → Holds s r room tab → t ≡ clearedFrom r s → Fills t r room tab
-unfolding clearedFrom filled
-holds-fills s t tab r room h e =
-    let k : r ≡ length tab = sym (length-take-le r s (h .fits)) ∙ ap length (h .is) in
-    record {
-      count = k;
-      words = e ∙ ap₂ (λ (u : List ℕ) (m : ℕ). u ++ replicate (m - r) 0) (h .is) (h .same) ∙ ap (λ (m : ℕ). tab ++ replicate (room - m) 0) k;
-    }
+holds-fills s t tab r room h e = record {
+  count = sym (length-take-le r s (h .fits)) ∙ ap length (h .is);
+  words = holds-filled s t r room tab h e;
+}
 
 -- ---- the returns of `join`
 

@@ -11,7 +11,7 @@ use Rattle.panel.specs.Masks.{panelSize}
 use Rattle.prime.specs.Books.{goodBook, clash}
 use Rattle.prime.specs.Sheets.{goodSheet}
 use Rattle.answers.specs.Answers.{refuse}
-use Rattle.joining.specs.Joining.{Piece, bookOf, sheetOf, exceeds, joinedBook, joinedSheet, piecesCode, joinCode, GoodPiece, GoodPieces, Joinable}
+use Rattle.joining.specs.Joining.{Piece, bookIn, sheetIn, exceeds, joinedBook, joinedSheet, piecesCode, joinCode, GoodPiece, GoodPieces, Joinable}
 
 -- ---- counts and size
 
@@ -55,12 +55,12 @@ module _ (n : ℕ) (a b : Piece) (later : ℕ) (x₂ : Bool) (e₂ : x₂ ≡ pa
       unfolding piecesCode
       code-3-right h = rw (← e₂, h₂, ← e₃, h₃, ← f₃, h)
 
-      module _ (k₃ : y₃ ≡ false) (x₄ : Bool) (e₄ : x₄ ≡ (goodBook n (bookOf a) && goodBook n (bookOf b))) where
+      module _ (k₃ : y₃ ≡ false) (x₄ : Bool) (e₄ : x₄ ≡ (goodBook n (bookIn a) && goodBook n (bookIn b))) where
         pub code-4 : not x₄ ≡ true → 4 ≡ piecesCode n a b later
         unfolding piecesCode
         code-4 h = rw (← e₂, h₂, ← e₃, h₃, ← f₃, k₃, ← e₄, h)
 
-        module _ (h₄ : not x₄ ≡ false) (x₅ : Bool) (e₅ : x₅ ≡ (goodSheet n (sheetOf a) && goodSheet n (sheetOf b))) where
+        module _ (h₄ : not x₄ ≡ false) (x₅ : Bool) (e₅ : x₅ ≡ (goodSheet n (sheetIn a) && goodSheet n (sheetIn b))) where
           pub code-5 : not x₅ ≡ true → 5 ≡ piecesCode n a b later
           unfolding piecesCode
           code-5 h = rw (← e₂, h₂, ← e₃, h₃, ← f₃, k₃, ← e₄, h₄, ← e₅, h)
@@ -80,24 +80,24 @@ unfolding piecesCode
 pieces-e n a b later e =
     let p₂ = refuse-zero (not (panelSize n)) 1 _ e in
     let p₃ = refuse-zero (exceeds a || exceeds b) 2 _ (p₂ .1) in
-    let p₄ = refuse-zero (not (goodBook n (bookOf a) && goodBook n (bookOf b))) 3 _ (p₃ .1) in
-    let p₅ = refuse-zero (not (goodSheet n (sheetOf a) && goodSheet n (sheetOf b))) 4 _ (p₄ .1) in
+    let p₄ = refuse-zero (not (goodBook n (bookIn a) && goodBook n (bookIn b))) 3 _ (p₃ .1) in
+    let p₅ = refuse-zero (not (goodSheet n (sheetIn a) && goodSheet n (sheetIn b))) 4 _ (p₄ .1) in
     let within = or-false (exceeds a) (exceeds b) (p₃ .0) in
-    let books = not-false (goodBook n (bookOf a) && goodBook n (bookOf b)) (p₄ .0) in
-    let sheets = not-false (goodSheet n (sheetOf a) && goodSheet n (sheetOf b)) (p₅ .0) in (
+    let books = not-false (goodBook n (bookIn a) && goodBook n (bookIn b)) (p₄ .0) in
+    let sheets = not-false (goodSheet n (sheetIn a) && goodSheet n (sheetIn b)) (p₅ .0) in (
       record {
         size = not-false (panelSize n) (p₂ .0);
         left = record {
           book-in = counts-in a (exceeds a) refl (within .0) .0;
           sheet-in = counts-in a (exceeds a) refl (within .0) .1;
-          good-book = and-l (goodBook n (bookOf a)) (goodBook n (bookOf b)) books;
-          good-sheet = and-l (goodSheet n (sheetOf a)) (goodSheet n (sheetOf b)) sheets;
+          good-book = and-l (goodBook n (bookIn a)) (goodBook n (bookIn b)) books;
+          good-sheet = and-l (goodSheet n (sheetIn a)) (goodSheet n (sheetIn b)) sheets;
         };
         right = record {
           book-in = counts-in b (exceeds b) refl (within .1) .0;
           sheet-in = counts-in b (exceeds b) refl (within .1) .1;
-          good-book = and-r (goodBook n (bookOf a)) (goodBook n (bookOf b)) books;
-          good-sheet = and-r (goodSheet n (sheetOf a)) (goodSheet n (sheetOf b)) sheets;
+          good-book = and-r (goodBook n (bookIn a)) (goodBook n (bookIn b)) books;
+          good-sheet = and-r (goodSheet n (sheetIn a)) (goodSheet n (sheetIn b)) sheets;
         };
       },
       p₅ .1,
@@ -112,14 +112,14 @@ piece-in n a g =
 pub pieces-i : (n : ℕ) (a b : Piece) (later : ℕ) → GoodPieces n a b → later ≡ piecesCode n a b later
 pieces-i n a b later g =
     pieces-pass n a b later (panelSize n) refl (ap not (g .size)) (exceeds a) refl (piece-in n a (g .left)) (exceeds b) refl (piece-in n b (g .right))
-    (goodBook n (bookOf a) && goodBook n (bookOf b)) refl (ap not (and-i (goodBook n (bookOf a)) (goodBook n (bookOf b)) (g .left .good-book) (g .right .good-book)))
-    (goodSheet n (sheetOf a) && goodSheet n (sheetOf b)) refl (ap not (and-i (goodSheet n (sheetOf a)) (goodSheet n (sheetOf b)) (g .left .good-sheet) (g .right .good-sheet)))
+    (goodBook n (bookIn a) && goodBook n (bookIn b)) refl (ap not (and-i (goodBook n (bookIn a)) (goodBook n (bookIn b)) (g .left .good-book) (g .right .good-book)))
+    (goodSheet n (sheetIn a) && goodSheet n (sheetIn b)) refl (ap not (and-i (goodSheet n (sheetIn a)) (goodSheet n (sheetIn b)) (g .left .good-sheet) (g .right .good-sheet)))
 
 -- a refusal of the pieces does not ask what comes later
 pub pieces-refused : (n : ℕ) (a b : Piece) (later : ℕ) → (piecesCode n a b 0 ≡ 0 → ⊥) → piecesCode n a b 0 ≡ piecesCode n a b later
 unfolding piecesCode
 pieces-refused n a b later h =
-    go (not (panelSize n)) (exceeds a || exceeds b) (not (goodBook n (bookOf a) && goodBook n (bookOf b))) (not (goodSheet n (sheetOf a) && goodSheet n (sheetOf b))) h
+    go (not (panelSize n)) (exceeds a || exceeds b) (not (goodBook n (bookIn a) && goodBook n (bookIn b))) (not (goodSheet n (sheetIn a) && goodSheet n (sheetIn b))) h
   where
     ladder : Bool → Bool → Bool → Bool → ℕ → ℕ
     ladder w x y z k = refuse w 2 (refuse x 3 (refuse y 4 (refuse z 5 k)))
@@ -142,7 +142,7 @@ module _ (n : ℕ) (a b : Piece) (bookRoom sheetRoom : ℕ) (code : ℕ) (ec : c
   code-pieces h = ec ∙ pieces-refused n a b _ (λ e. h (ec ∙ e))
 
   module _ (h : code ≡ 0) where
-    module _ (x₇ : Bool) (e₇ : x₇ ≡ clash (bookOf a) (bookOf b)) where
+    module _ (x₇ : Bool) (e₇ : x₇ ≡ clash (bookIn a) (bookIn b)) where
       pub code-7 : x₇ ≡ true → 7 ≡ joinCode n a b bookRoom sheetRoom
       unfolding joinCode
       code-7 h₇ = rw (← pieces-i n a b _ (good-pieces n a b code ec h), ← e₇, h₇)
@@ -167,7 +167,7 @@ pub joinable-e : (n : ℕ) (a b : Piece) (bookRoom sheetRoom : ℕ) → joinCode
 unfolding joinCode
 joinable-e n a b bookRoom sheetRoom e =
     let p₅ = pieces-e n a b _ e in
-    let p₇ = refuse-zero (clash (bookOf a) (bookOf b)) 6 _ (p₅ .1) in
+    let p₇ = refuse-zero (clash (bookIn a) (bookIn b)) 6 _ (p₅ .1) in
     let p₈ = refuse-zero (ltb bookRoom (length (joinedBook a b))) 7 _ (p₇ .1) in
     let p₉ = refuse-zero (ltb sheetRoom (length (joinedSheet n a b))) 8 _ (p₈ .1) in
     record {
@@ -179,5 +179,5 @@ joinable-e n a b bookRoom sheetRoom e =
 
 pub joinable-i : (n : ℕ) (a b : Piece) (bookRoom sheetRoom : ℕ) → Joinable n a b bookRoom sheetRoom → joinCode n a b bookRoom sheetRoom ≡ 0
 joinable-i n a b bookRoom sheetRoom j =
-    sym (code-0 n a b bookRoom sheetRoom 0 (pieces-i n a b 0 (j .pieces)) refl (clash (bookOf a) (bookOf b)) refl (j .agree)
+    sym (code-0 n a b bookRoom sheetRoom 0 (pieces-i n a b 0 (j .pieces)) refl (clash (bookIn a) (bookIn b)) refl (j .agree)
     (length (joinedBook a b)) refl (j .book-fits) (length (joinedSheet n a b)) refl (j .sheet-fits))

@@ -1,4 +1,3 @@
 pub mod Judging
 pub mod Doing
 pub mod Promises
-pub mod Examples

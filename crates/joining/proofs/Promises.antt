@@ -9,7 +9,7 @@ use Rattle.prime.proofs.Least.{good-i}
 use Rattle.prime.proofs.Laws.{join-good}
 use Rattle.book.proofs.Unions.{good-union}
 use Rattle.answers.specs.declared.Answer.{Answer}
-use Rattle.joining.specs.Joining.{Piece, bookOf, sheetOf, joinedBook, joinedSheet, joinCode, Joined}
+use Rattle.joining.specs.Joining.{Piece, bookIn, sheetIn, joinedBook, joinedSheet, joinCode, Joined}
 use Rattle.joining.proofs.Judging.{joinable-e}
 use Rattle.joining.proofs.Doing.{sheets-good}
 
@@ -25,6 +25,6 @@ pub joined-good : (n : ℕ) (a b : Piece) (bookRoom sheetRoom : ℕ) → joinCod
 joined-good n a b bookRoom sheetRoom e =
     let j = joinable-e n a b bookRoom sheetRoom e in
     let g = j .pieces in (
-      good-union n (bookOf a) (bookOf b) (g .left .good-book) (g .right .good-book) (j .agree),
-      good-i n (joinedSheet n a b) (join-good n (sheets-good n a b g .0) (sheetOf a) (sheetOf b)),
+      good-union n (bookIn a) (bookIn b) (g .left .good-book) (g .right .good-book) (j .agree),
+      good-i n (joinedSheet n a b) (join-good n (sheets-good n a b g .0) (sheetIn a) (sheetIn b)),
     )

@@ -25,13 +25,13 @@ pub record Piece : Type 0 where
 abbrev pub piece : List ℕ → ℕ → List ℕ → ℕ → Piece
 piece book books sheet sheets = record { book-words = book; book-count = books; sheet-words = sheet; sheet-count = sheets }
 
--- the book of a piece: the words in use
-abbrev pub bookOf : Piece → List ℕ
-bookOf a = take (a .book-count) (a .book-words)
+-- the book in a piece: its words in use
+abbrev pub bookIn : Piece → List ℕ
+bookIn a = take (a .book-count) (a .book-words)
 
--- the sheet of a piece
-abbrev pub sheetOf : Piece → List ℕ
-sheetOf a = take (a .sheet-count) (a .sheet-words)
+-- the sheet in a piece
+abbrev pub sheetIn : Piece → List ℕ
+sheetIn a = take (a .sheet-count) (a .sheet-words)
 
 -- a count of the piece exceeds its slice
 unfoldable pub exceeds : Piece → Bool
@@ -41,26 +41,26 @@ exceeds a = ltb (length (a .book-words)) (a .book-count) || ltb (length (a .shee
 
 -- the joined book: the union of the two
 abbrev pub joinedBook : Piece → Piece → List ℕ
-joinedBook a b = union (bookOf a) (bookOf b)
+joinedBook a b = union (bookIn a) (bookIn b)
 
 -- the joined sheet: for each head the smallest bodies that both sheets permit
 abbrev pub joinedSheet : ℕ → Piece → Piece → List ℕ
-joinedSheet n a b = joinSheet n (sheetOf a) (sheetOf b)
+joinedSheet n a b = joinSheet n (sheetIn a) (sheetIn b)
 
 -- refuse what is wrong with the two pieces by themselves, in the order of the codes; else go on
 unfoldable pub piecesCode : ℕ → Piece → Piece → ℕ → ℕ
 piecesCode n a b later =
     refuse (not (panelSize n)) 2
     (refuse (exceeds a || exceeds b) 3
-    (refuse (not (goodBook n (bookOf a) && goodBook n (bookOf b))) 4
-    (refuse (not (goodSheet n (sheetOf a) && goodSheet n (sheetOf b))) 5
+    (refuse (not (goodBook n (bookIn a) && goodBook n (bookIn b))) 4
+    (refuse (not (goodSheet n (sheetIn a) && goodSheet n (sheetIn b))) 5
     later)))
 
 -- the code, for slices with so much room for the book and for the sheet: the refusals in their order, or 0
 unfoldable pub joinCode : ℕ → Piece → Piece → ℕ → ℕ → ℕ
 joinCode n a b bookRoom sheetRoom =
     piecesCode n a b
-    (refuse (clash (bookOf a) (bookOf b)) 7
+    (refuse (clash (bookIn a) (bookIn b)) 7
     (refuse (ltb bookRoom (length (joinedBook a b))) 8
     (refuse (ltb sheetRoom (length (joinedSheet n a b))) 9
     0)))
@@ -97,8 +97,8 @@ pub record Joined (n : ℕ) (a b : Piece) (book sheet : List ℕ) (r : Answer) (
 pub record GoodPiece (n : ℕ) (a : Piece) : Type 0 where
   pub book-in : a .book-count ≤ length (a .book-words)
   pub sheet-in : a .sheet-count ≤ length (a .sheet-words)
-  pub good-book : goodBook n (bookOf a) ≡ true
-  pub good-sheet : goodSheet n (sheetOf a) ≡ true
+  pub good-book : goodBook n (bookIn a) ≡ true
+  pub good-sheet : goodSheet n (sheetIn a) ≡ true
 
 -- the panel has 1 to 10 relays, and both pieces are good for it
 pub record GoodPieces (n : ℕ) (a b : Piece) : Type 0 where
@@ -109,6 +109,6 @@ pub record GoodPieces (n : ℕ) (a b : Piece) : Type 0 where
 -- no state stands in the two books with another successor, and there is room for the joined book and sheet
 pub record Joinable (n : ℕ) (a b : Piece) (bookRoom sheetRoom : ℕ) : Type 0 where
   pub pieces : GoodPieces n a b
-  pub agree : clash (bookOf a) (bookOf b) ≡ false
+  pub agree : clash (bookIn a) (bookIn b) ≡ false
   pub book-fits : length (joinedBook a b) ≤ bookRoom
   pub sheet-fits : length (joinedSheet n a b) ≤ sheetRoom

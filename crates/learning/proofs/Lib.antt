@@ -1,5 +1,4 @@
 pub mod Words
 pub mod Lists
 pub mod Ends
-pub mod Examples
 pub mod Determined

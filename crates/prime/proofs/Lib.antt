@@ -4,4 +4,3 @@ pub mod Apply
 pub mod Primes
 pub mod Books
 pub mod Passes
-pub mod Examples

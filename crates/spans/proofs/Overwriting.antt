@@ -5,10 +5,9 @@ use mathlib.Core.List.{List, [], _∷_, _++_, append-assoc, append-nil}
 use Prim.Native.Nat.{ℕ, _+_, _-_, _≤_, _<_}
 use native.Mathlib.Nat.{le-of-suc-le-suc, not-suc-le-zero}
 use native.Mathlib.Omega.{arith}
-use lib.ListN.{length, take, drop, set, length-append, length-drop, replicate, drop-of-length-le}
+use lib.ListN.{length, take, drop, set, length-append, length-drop, drop-of-length-le}
 use lib.Seq.{drop-append-seam, take-append-seam, drop-drop, take-all}
 use Rattle.table.specs.Lists.{consIf}
-use Rattle.table.specs.Surgery.{filled, clearedFrom}
 use Rattle.spans.specs.Parts.{oneIf, over, putIf, Laid}
 
 pub over-length : (xs s : List ℕ) → length xs ≤ length s → length (over xs s) ≡ length s
@@ -53,13 +52,6 @@ laid old s tab r er es h = record {
     same = ap length es ∙ over-length tab old h;
   };
 }
-
--- write the table, then clear from its length on
-pub laid-cleared : (old s tab : List ℕ) (r : ℕ) → Laid old s r tab → clearedFrom r s ≡ filled (length old) tab
-unfolding clearedFrom filled
-laid-cleared old s tab r l =
-    ap₂ (λ (a : List ℕ) (k : ℕ). a ++ replicate (k - r) 0) (l .holds .is) (l .holds .same)
-    ∙ ap (λ (k : ℕ). tab ++ replicate (length old - k) 0) (l .count)
 
 -- a part lent from at on has come back with xs over its front
 pub put-over : (at : ℕ) (s xs ys : List ℕ) → at ≤ length s → ys ≡ over xs (take (length s - at) (drop at s))

@@ -1,0 +1,217 @@
+-- Demands 2 and 3, over the contracts of learn and join and nothing else.
+use mathlib.Core.Path.{_≡_, refl, sym, ap, ap₂, _∙_, subst}
+use mathlib.Core.Logic.{_⊎_, inl, inr}
+use mathlib.Core.Bool.{true}
+use mathlib.Core.List.{List, List·Memᴰ as Mem}
+use Prim.Native.Nat.{ℕ, zero, suc, _+_, _-_, _≤_}
+use native.Mathlib.Omega.{arith}
+use lib.ListN.{length, take, drop, replicate, length-append, length-replicate}
+use lib.Seq.{take-at, drop-at, length-take-le}
+use Rattle.table.specs.Lists.{increasing}
+use Rattle.table.specs.Surgery.{filled}
+use Rattle.table.proofs.Increasing.{increasing-unique}
+use Rattle.panel.proofs.Words.{rule-e, rule-i}
+use Rattle.prime.specs.Books.{union}
+use Rattle.prime.specs.Sheets.{sheetOf, joinSheet}
+use Rattle.prime.proofs.Laws.{sheetOf-good, sheetOf-members}
+use Rattle.prime.proofs.Primes.{sheetOf-prime, prime-sheetOf, join-members}
+use Rattle.prime.proofs.Apply.{Booked}
+use Rattle.prime.proofs.Books.{book-e, book-increasing, union-e, union-l, union-r, union-increasing}
+use Rattle.answers.specs.Answers.{plain, done, answerIf}
+use Rattle.answers.specs.declared.Answer.{Answer}
+use Rattle.answers.proofs.Laws.{answer-done, words-done}
+use Rattle.learning.specs.Learn.{Run, going, refused, learnRun, runAnswer, runBook, runSheet, Learned}
+use Rattle.joining.specs.Joining.{joinedBook, joinedSheet, joinCode, joinAnswer, bookAfter, sheetAfter}
+use Rattle.handover.specs.Demands.{Outcome, bookUsed, sheetUsed, ZeroFrom, Complete, Learns, Same, Divided, lent, Joins}
+use Rattle.handover.proofs.Runs.{Read, After, read-booked, run-read}
+
+-- ---- a table at the front of a slice, and 0 in every word beyond
+
+module _ (s ws : List ℕ) (room count : ℕ) (es : s ≡ filled room ws) (ec : count ≡ length ws) where
+  used-is : take count s ≡ ws
+  unfolding filled
+  used-is = ap (take count) es ∙ take-at ws (replicate (room - length ws) 0) count (sym ec)
+
+  length-is : length s ≡ length ws + (room - length ws)
+  unfolding filled
+  length-is = ap length es ∙ length-append ws (replicate (room - length ws) 0) ∙ ap (λ (k : ℕ). length ws + k) (length-replicate (room - length ws) 0)
+
+  count-in : count ≤ length s
+  count-in = omega (arith, length-is, ec)
+
+  rest-zero : ZeroFrom count s
+  unfolding filled
+  rest-zero =
+      let k : room - length ws ≡ length s - count = omega (arith, length-is, ec) in
+      ap (drop count) es ∙ drop-at ws (replicate (room - length ws) 0) count (sym ec) ∙ ap (λ (m : ℕ). replicate m 0) k
+
+-- ---- demand 2
+
+-- book b in order with the members of ts, and the sheet of ts, each at the front of its slice: the outcome is complete
+module _ (n : ℕ) (small : n ≤ 10) (ts b s : List ℕ) (o : Outcome) (bookRoom sheetRoom : ℕ)
+    (eb : o .book ≡ filled bookRoom b) (cb : o .answer .«book_count» ≡ length b) (es : o .sheet ≡ filled sheetRoom s) (cs : o .answer .«sheet_count» ≡ length s)
+    (up : increasing b ≡ true) (only : (t : ℕ) → Mem t b → Mem t ts) (each : (t : ℕ) → Mem t ts → Mem t b) (is : s ≡ sheetOf n ts) where
+  used-book : bookUsed o ≡ b
+  used-book = used-is (o .book) b bookRoom (o .answer .«book_count») eb cb
+
+  used-sheet : sheetUsed o ≡ sheetOf n ts
+  used-sheet = used-is (o .sheet) s sheetRoom (o .answer .«sheet_count») es cs ∙ is
+
+  complete : Complete n ts o
+  complete = record {
+    book-in = count-in (o .book) b bookRoom (o .answer .«book_count») eb cb;
+    book-rising = ap increasing used-book ∙ up;
+    book-only = λ t m. only t (subst (λ (z : List ℕ). Mem t z) used-book m);
+    book-all = λ t m. subst (λ (z : List ℕ). Mem t z) (sym used-book) (each t m);
+    book-rest = rest-zero (o .book) b bookRoom (o .answer .«book_count») eb cb;
+    sheet-in = count-in (o .sheet) s sheetRoom (o .answer .«sheet_count») es cs;
+    is-sheet = used-sheet;
+    sheet-rising = ap increasing used-sheet ∙ sheetOf-good n small ts .sorted;
+    only-prime = λ w m.
+        let k = sheetOf-prime n small ts w (subst (λ (z : List ℕ). Mem w z) used-sheet m) in
+        record {
+          is-rule = rule-i n w (k .0);
+          is-consistent = k .1 .is-consistent;
+          no-other = λ r v e c f. k .1 .no-other r (rule-e n r v) (sym e) c f;
+        };
+    all-prime = λ w p.
+        subst (λ (z : List ℕ). Mem w z) (sym used-sheet)
+        (prime-sheetOf n small ts w (rule-e n w (p .is-rule)) (record { is-consistent = p .is-consistent; no-other = λ r v e c f. p .no-other r (rule-i n r v) (sym e) c f }));
+    sheet-rest = rest-zero (o .sheet) s sheetRoom (o .answer .«sheet_count») es cs;
+  }
+
+-- what a learn that is not refused has done
+record Held (n : ℕ) (ts : List ℕ) (bookRoom sheetRoom : ℕ) (book sheet : List ℕ) (r : Answer) : Type 0 where
+  b : List ℕ
+  s : List ℕ
+  x : ℕ
+  y : ℕ
+  read : Read n ts b s x y
+  answers : r ≡ done (length b) (length s) x y
+  books : book ≡ filled bookRoom b
+  sheets : sheet ≡ filled sheetRoom s
+
+held : (n : ℕ) (ts : List ℕ) (bookRoom sheetRoom : ℕ) (book sheet : List ℕ) (r : Answer) → Learned n ts bookRoom sheetRoom book sheet r → r .code ≡ 0 → Held n ts bookRoom sheetRoom book sheet r
+unfolding runAnswer runBook runSheet
+held n ts bookRoom sheetRoom book sheet r l z =
+    go (learnRun n bookRoom sheetRoom ts) (run-read n bookRoom sheetRoom ts) (l .answer) (l .book-words) (l .sheet-words)
+  where
+    go : (q : Run) → After n ts q → r ≡ runAnswer q → book ≡ runBook bookRoom q → sheet ≡ runSheet sheetRoom q → Held n ts bookRoom sheetRoom book sheet r
+    go (refused c p) f e eb es = absurd (omega (arith, f .0, ap (λ (a : Answer). a .code) e, z))
+    go (going b s x y) f e eb es = record { b = b; s = s; x = x; y = y; read = f; answers = e; books = eb; sheets = es }
+
+-- demand 2: what a learn of ts leaves is the complete result for ts
+pub learn-complete : (n : ℕ) (ts : List ℕ) (o : Outcome) → Learns n ts o → Complete n ts o
+learn-complete n ts o l =
+    let h = held n ts (l .book-room) (l .sheet-room) (o .book) (o .sheet) (o .answer) (l .contract) (l .learned) in
+    complete n (h .read .small) ts (h .b) (h .s) o (l .book-room) (l .sheet-room)
+    (h .books) (ap (λ (a : Answer). a .«book_count») (h .answers)) (h .sheets) (ap (λ (a : Answer). a .«sheet_count») (h .answers))
+    (book-increasing (h .b) (book-e n (h .b) (h .read .good) .rising)) (h .read .into) (h .read .all-in) (h .read .is-sheet)
+
+-- the panel of a learn that is not refused has at most 10 relays
+pub learns-small : (n : ℕ) (ts : List ℕ) (o : Outcome) → Learns n ts o → n ≤ 10
+learns-small n ts o l = held n ts (l .book-room) (l .sheet-room) (o .book) (o .sheet) (o .answer) (l .contract) (l .learned) .read .small
+
+-- its words are valid, and no state has two successors
+pub learns-booked : (n : ℕ) (ts : List ℕ) (o : Outcome) → Learns n ts o → Booked n ts
+learns-booked n ts o l =
+    let h = held n ts (l .book-room) (l .sheet-room) (o .book) (o .sheet) (o .answer) (l .contract) (l .learned) in
+    read-booked n ts (h .b) (h .s) (h .x) (h .y) (h .read)
+
+-- the sheet count is n less struck, and added
+pub learn-counts : (n : ℕ) (ts : List ℕ) (o : Outcome) → Learns n ts o → o .answer .«sheet_count» + o .answer .struck ≡ n + o .answer .added
+learn-counts n ts o l =
+    let h = held n ts (l .book-room) (l .sheet-room) (o .book) (o .sheet) (o .answer) (l .contract) (l .learned) in
+    omega (
+      arith,
+      h .read .counts,
+      ap (λ (a : Answer). a .«sheet_count») (h .answers),
+      ap (λ (a : Answer). a .struck) (h .answers),
+      ap (λ (a : Answer). a .added) (h .answers),
+    )
+
+-- learn's own check never refuses: code 10 is never given
+pub never-ten : (n : ℕ) (ts : List ℕ) (bookRoom sheetRoom : ℕ) (book sheet : List ℕ) (r : Answer) → Learned n ts bookRoom sheetRoom book sheet r → r .code ≤ 9
+unfolding runAnswer
+never-ten n ts bookRoom sheetRoom book sheet r l = go (learnRun n bookRoom sheetRoom ts) (run-read n bookRoom sheetRoom ts) (l .answer)
+  where
+    go : (q : Run) → After n ts q → r ≡ runAnswer q → r .code ≤ 9
+    go (refused c p) f e = omega (arith, f .1, ap (λ (a : Answer). a .code) e)
+    go (going b s x y) f e = omega (arith, ap (λ (a : Answer). a .code) e)
+
+-- ---- one complete result
+
+-- lists with the same members have one complete result, number for number
+pub complete-same : (n : ℕ) → n ≤ 10 → (ts us : List ℕ) (o q : Outcome) → Complete n ts o → Complete n us q
+    → ((t : ℕ) → Mem t ts → Mem t us) → ((t : ℕ) → Mem t us → Mem t ts) → Same o q
+complete-same n small ts us o q c d f g = record {
+  books = same-book;
+  sheets = same-sheet;
+  book-counts = sym (length-take-le (o .answer .«book_count») (o .book) (c .book-in)) ∙ ap length same-book ∙ length-take-le (q .answer .«book_count») (q .book) (d .book-in);
+  sheet-counts = sym (length-take-le (o .answer .«sheet_count») (o .sheet) (c .sheet-in)) ∙ ap length same-sheet ∙ length-take-le (q .answer .«sheet_count») (q .sheet) (d .sheet-in);
+}
+  where
+    same-book : bookUsed o ≡ bookUsed q
+    same-book =
+        increasing-unique (bookUsed o) (bookUsed q) (c .book-rising) (d .book-rising)
+        (λ t m. d .book-all t (f t (c .book-only t m))) (λ t m. c .book-all t (g t (d .book-only t m)))
+
+    same-sheet : sheetUsed o ≡ sheetUsed q
+    same-sheet = c .is-sheet ∙ sheetOf-members n small ts us f g ∙ sym (d .is-sheet)
+
+-- rows in any order, repeats allowed: learns of lists with the same members agree
+pub order-free : (n : ℕ) (ts us : List ℕ) (o q : Outcome) → Learns n ts o → Learns n us q
+    → ((t : ℕ) → Mem t ts → Mem t us) → ((t : ℕ) → Mem t us → Mem t ts) → Same o q
+order-free n ts us o q l k f g =
+    complete-same n (learns-small n ts o l) ts us o q (learn-complete n ts o l) (learn-complete n us q k) f g
+
+-- ---- demand 3
+
+-- the answer of a join has the code of its ladder
+join-code : (c books sheets : ℕ) → (answerIf c (done books sheets 0 0) (plain c 0 0 0)) .code ≡ c
+join-code zero books sheets = refl
+join-code (suc c) books sheets = refl
+
+-- what a join of the complete results for ps and qs leaves is the complete result for any whole that they divide
+pub join-complete : (n : ℕ) → n ≤ 10 → (ts ps qs : List ℕ) (a b o : Outcome) → Divided ts ps qs → Complete n ps a → Complete n qs b → Joins n a b o → Complete n ts o
+unfolding joinAnswer bookAfter sheetAfter
+join-complete n small ts ps qs a b o v c d j =
+    complete n small ts (union (bookUsed a) (bookUsed b)) (joinSheet n (sheetUsed a) (sheetUsed b)) o (length (j .book-before)) (length (j .sheet-before))
+    (j .contract .book-left ∙ words-done code (filled (length (j .book-before)) (joinedBook (lent a) (lent b))) (j .book-before) zero-code)
+    (ap (λ (q : Answer). q .«book_count») answers)
+    (j .contract .sheet-left ∙ words-done code (filled (length (j .sheet-before)) (joinedSheet n (lent a) (lent b))) (j .sheet-before) zero-code)
+    (ap (λ (q : Answer). q .«sheet_count») answers)
+    (union-increasing (bookUsed a) (bookUsed b) (c .book-rising) (d .book-rising))
+    (λ t m. into t (union-e (bookUsed a) (bookUsed b) t m))
+    (λ t m. out t (v .covered t m))
+    (ap₂ (joinSheet n) (c .is-sheet) (d .is-sheet) ∙ join-members n small ps qs ts (v .covered) (v .left-in) (v .right-in))
+  where
+    code : ℕ
+    code = joinCode n (lent a) (lent b) (length (j .book-before)) (length (j .sheet-before))
+
+    zero-code : code ≡ 0
+    zero-code =
+        sym (join-code code (length (joinedBook (lent a) (lent b))) (length (joinedSheet n (lent a) (lent b))))
+        ∙ sym (ap (λ (q : Answer). q .code) (j .contract .answer))
+        ∙ j .joined
+
+    answers : o .answer ≡ done (length (joinedBook (lent a) (lent b))) (length (joinedSheet n (lent a) (lent b))) 0 0
+    answers = j .contract .answer ∙ answer-done code (done (length (joinedBook (lent a) (lent b))) (length (joinedSheet n (lent a) (lent b))) 0 0) (plain code 0 0 0) zero-code
+
+    into : (t : ℕ) → Mem t (bookUsed a) ⊎ Mem t (bookUsed b) → Mem t ts
+    into t (inl m) = v .left-in t (c .book-only t m)
+    into t (inr m) = v .right-in t (d .book-only t m)
+
+    out : (t : ℕ) → Mem t ps ⊎ Mem t qs → Mem t (union (bookUsed a) (bookUsed b))
+    out t (inl m) = union-l (bookUsed a) (bookUsed b) t (c .book-all t m)
+    out t (inr m) = union-r (bookUsed a) (bookUsed b) t (d .book-all t m)
+
+-- demand 3: the pieces learned apart and joined, and the whole learned in any order, agree number for number, and both are what demand 2 defines.
+-- That no state has two successors needs no premise: the calls would have been refused.
+pub pieces-whole : (n : ℕ) (ts ps qs : List ℕ) (whole a b o : Outcome) → Divided ts ps qs
+    → Learns n ts whole → Learns n ps a → Learns n qs b → Joins n a b o → Same o whole × Complete n ts o × Complete n ts whole
+pieces-whole n ts ps qs whole a b o v w l k j =
+    let small = learns-small n ts whole w in
+    let all = learn-complete n ts whole w in
+    let joined = join-complete n small ts ps qs a b o v (learn-complete n ps a l) (learn-complete n qs b k) j in
+    (complete-same n small ts ts o whole joined all (λ t m. m) (λ t m. m), joined, all)

@@ -1,0 +1,6 @@
+pub mod Runs
+pub mod Demands
+pub mod Bench
+pub mod Clauses
+pub mod Document000
+pub mod Specializations

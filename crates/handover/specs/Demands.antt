@@ -1,0 +1,94 @@
+-- Demands 2 and 3: what a result must be to be the complete one, and how a recording is divided, learned in pieces and joined.
+use mathlib.Core.Path.{_≡_}
+use mathlib.Core.Logic.{_⊎_}
+use mathlib.Core.Bool.{true}
+use mathlib.Core.List.{List, List·Memᴰ as Mem}
+use Prim.Native.Nat.{ℕ, _-_, _≤_}
+use lib.ListN.{length, take, drop, replicate}
+use Rattle.table.specs.Lists.{increasing}
+use Rattle.panel.specs.Rules.{head, validRule, covers, contains}
+use Rattle.prime.specs.Sheets.{negative, sheetOf}
+use Rattle.answers.specs.declared.Answer.{Answer}
+use Rattle.learning.specs.Learn.{Learned}
+use Rattle.joining.specs.Joining.{Piece, piece, Joined}
+
+-- ---- prime, for the words ts themselves
+
+-- the body of w covers no state that is negative for its head in ts
+abbrev pub Consistent : List ℕ → ℕ → Type 0
+Consistent ts w = (i : ℕ) → negative ts (head w) i ≡ true → covers w i ≡ true → ⊥
+
+-- w is a rule of the panel whose body is consistent, and no other body that it contains is consistent
+pub record Prime (n : ℕ) (ts : List ℕ) (w : ℕ) : Type 0 where
+  pub is-rule : validRule n w ≡ true
+  pub is-consistent : Consistent ts w
+  pub no-other : (r : ℕ) → validRule n r ≡ true → head r ≡ head w → contains w r ≡ true → Consistent ts r → r ≡ w
+
+-- ---- what a call leaves
+
+-- both slices as the call left them, and its answer
+pub record Outcome : Type 0 where
+  pub book : List ℕ
+  pub sheet : List ℕ
+  pub answer : Answer
+
+-- the words of the book in use
+abbrev pub bookUsed : Outcome → List ℕ
+bookUsed o = take (o .answer .«book_count») (o .book)
+
+-- the words of the sheet in use
+abbrev pub sheetUsed : Outcome → List ℕ
+sheetUsed o = take (o .answer .«sheet_count») (o .sheet)
+
+-- ---- demand 2
+
+-- every word from the count on is 0
+abbrev pub ZeroFrom : ℕ → List ℕ → Type 0
+ZeroFrom count s = drop count s ≡ replicate (length s - count) 0
+
+-- the complete result for the words ts: the book lists them, each once and in order; the sheet lists all their prime rules and nothing else
+pub record Complete (n : ℕ) (ts : List ℕ) (o : Outcome) : Type 0 where
+  pub book-in : o .answer .«book_count» ≤ length (o .book)
+  pub book-rising : increasing (bookUsed o) ≡ true
+  pub book-only : (t : ℕ) → Mem t (bookUsed o) → Mem t ts
+  pub book-all : (t : ℕ) → Mem t ts → Mem t (bookUsed o)
+  pub book-rest : ZeroFrom (o .answer .«book_count») (o .book)
+  pub sheet-in : o .answer .«sheet_count» ≤ length (o .sheet)
+  pub is-sheet : sheetUsed o ≡ sheetOf n ts
+  pub sheet-rising : increasing (sheetUsed o) ≡ true
+  pub only-prime : (w : ℕ) → Mem w (sheetUsed o) → Prime n ts w
+  pub all-prime : (w : ℕ) → Prime n ts w → Mem w (sheetUsed o)
+  pub sheet-rest : ZeroFrom (o .answer .«sheet_count») (o .sheet)
+
+-- a learn of the words ts in slices of some room ended with o, and was not refused
+pub record Learns (n : ℕ) (ts : List ℕ) (o : Outcome) : Type 0 where
+  pub book-room : ℕ
+  pub sheet-room : ℕ
+  pub contract : Learned n ts book-room sheet-room (o .book) (o .sheet) (o .answer)
+  pub learned : o .answer .code ≡ 0
+
+-- ---- demand 3
+
+-- two outcomes with the same words in use and the same counts
+pub record Same (o q : Outcome) : Type 0 where
+  pub books : bookUsed o ≡ bookUsed q
+  pub sheets : sheetUsed o ≡ sheetUsed q
+  pub book-counts : o .answer .«book_count» ≡ q .answer .«book_count»
+  pub sheet-counts : o .answer .«sheet_count» ≡ q .answer .«sheet_count»
+
+-- the whole ts is divided into ps and qs: every row stands in at least one piece, in any order and any number of times
+pub record Divided (ts ps qs : List ℕ) : Type 0 where
+  pub left-in : (t : ℕ) → Mem t ps → Mem t ts
+  pub right-in : (t : ℕ) → Mem t qs → Mem t ts
+  pub covered : (t : ℕ) → Mem t ts → Mem t ps ⊎ Mem t qs
+
+-- a piece as it is lent to join: what a learn left, with the counts that it answered
+abbrev pub lent : Outcome → Piece
+lent o = piece (o .book) (o .answer .«book_count») (o .sheet) (o .answer .«sheet_count»)
+
+-- a join of what two learns left, in slices of some room and with any words in them before, ended with o, and was not refused
+pub record Joins (n : ℕ) (a b o : Outcome) : Type 0 where
+  pub book-before : List ℕ
+  pub sheet-before : List ℕ
+  pub contract : Joined n (lent a) (lent b) book-before sheet-before (o .answer) (o .book) (o .sheet)
+  pub joined : o .answer .code ≡ 0

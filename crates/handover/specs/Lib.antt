@@ -1,0 +1,3 @@
+pub mod Demands
+pub mod Bench
+pub mod Document000
