@@ -1,0 +1,43 @@
+-- `desk::calling::join_to` is safe and ends.
+use mathlib.Core.Path.{sym}
+use native.Mathlib.Omega.{arith}
+use lib.Seq.{length-take-le}
+use Rattle.desk.proofs.calling.join_to.Statement.{statement}
+use Rattle.desk.proofs.calling.join_to.Tie as tie
+
+pub join-to-spec : {M : Type 1} → statement M
+join-to-spec =
+    tie.close
+    (tie.spec
+    (λ c κs. tt)
+    (λ c. omega arith)
+    (λ c. tt)
+    (λ c κs. tt)
+    (λ c. omega arith)
+    (λ c. omega arith)
+    (λ c. tt)
+    (λ c κs. tt)
+    (λ c. omega arith)
+    (λ c. omega arith)
+    (λ c. omega arith)
+    (λ c. tt)
+    (λ c κs. tt)
+    (λ c. omega arith)
+    (λ c. omega arith)
+    (λ c. omega arith)
+    (λ c. omega arith)
+    (λ c. tt)
+    (λ c. omega arith)
+    (λ c. sym (length-take-le _ _ (omega arith)))
+    (λ c. omega arith)
+    (λ c. sym (length-take-le _ _ (omega arith)))
+    (λ c. omega arith)
+    (λ c. sym (length-take-le _ _ (omega arith)))
+    (λ c. omega arith)
+    (λ c. sym (length-take-le _ _ (omega arith)))
+    (λ c κs. tt)
+    (λ c. omega arith)
+    (λ c. omega arith)
+    (λ c. omega arith)
+    (λ c. omega arith)
+    (λ c. tt))

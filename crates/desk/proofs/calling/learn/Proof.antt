@@ -1,0 +1,39 @@
+-- `desk::calling::learn` is safe and ends.
+use mathlib.Core.Path.{sym}
+use native.Mathlib.Omega.{arith}
+use borrow.Author.Needs.{needs}
+use lib.Seq.{length-take-le}
+use Rattle.desk.proofs.calling.learn.Statement.{statement}
+use Rattle.desk.proofs.calling.learn.Tie as tie
+
+pub learn-spec : {M : Type 1} → statement M
+learn-spec =
+    tie.close
+    (tie.spec
+    (λ c κs. tt)
+    (λ c. search needs)
+    (λ c. search needs)
+    (λ c. tt)
+    (λ c κs. tt)
+    (λ c. omega arith)
+    (λ c. tt)
+    (λ c κs. tt)
+    (λ c. omega arith)
+    (λ c. omega arith)
+    (λ c. tt)
+    (λ c κs. tt)
+    (λ c. omega arith)
+    (λ c. omega arith)
+    (λ c. omega arith)
+    (λ c. tt)
+    (λ c. omega arith)
+    (λ c. sym (length-take-le _ _ (omega arith)))
+    (λ c. omega arith)
+    (λ c. sym (length-take-le _ _ (omega arith)))
+    (λ c. omega arith)
+    (λ c. sym (length-take-le _ _ (omega arith)))
+    (λ c κs. tt)
+    (λ c. omega arith)
+    (λ c. omega arith)
+    (λ c. omega arith)
+    (λ c. tt))

@@ -1,0 +1,104 @@
+// One function for each call: makes it on the slices as they came, and puts its answer.
+use crate::output::put_answer;
+use crate::output::put_bytes;
+use crate::output::put_session;
+use crate::output::put_slice;
+use crate::output::put_word;
+use sessions::Session;
+
+pub fn fresh(n: u32, sheet: &mut [u32]) -> bool {
+    let answer = calls::fresh(n, sheet);
+    put_answer(answer);
+    put_slice(sheet)
+}
+
+pub fn take(
+    n: u32,
+    i: u32,
+    j: u32,
+    book: &mut [u32],
+    books: usize,
+    sheet: &mut [u32],
+    sheets: usize,
+) -> bool {
+    let answer = calls::take(n, i, j, book, books, sheet, sheets);
+    put_answer(answer);
+    put_slice(book);
+    put_slice(sheet)
+}
+
+pub fn learn(n: u32, words: &[u32], book: &mut [u32], sheet: &mut [u32]) -> bool {
+    let answer = learning::learn(n, words, book, sheet);
+    put_answer(answer);
+    put_slice(book);
+    put_slice(sheet)
+}
+
+pub fn join(
+    n: u32,
+    a_book: &[u32],
+    a_books: usize,
+    a_sheet: &[u32],
+    a_sheets: usize,
+    b_book: &[u32],
+    b_books: usize,
+    b_sheet: &[u32],
+    b_sheets: usize,
+    book: &mut [u32],
+    sheet: &mut [u32],
+) -> bool {
+    let answer = joining::join(
+        n,
+        a_book,
+        a_books,
+        a_sheet,
+        a_sheets,
+        b_book,
+        b_books,
+        b_sheet,
+        b_sheets,
+        book,
+        sheet,
+    );
+    put_answer(answer);
+    put_slice(book);
+    put_slice(sheet)
+}
+
+pub fn apply(n: u32, sheet: &[u32], sheets: usize, x: u32) -> bool {
+    let applied = calls::apply(n, sheet, sheets, x);
+    put_answer(applied.answer);
+    put_word(applied.state as usize)
+}
+
+pub fn start(n: u32, sheet: &mut [u32]) -> bool {
+    let outcome = Session::start(n, sheet);
+    put_answer(outcome.answer);
+    put_session(outcome.session);
+    put_slice(sheet)
+}
+
+pub fn session_take(session: Session, book: &mut [u32], sheet: &mut [u32], i: u32, j: u32) -> bool {
+    let outcome = session.take(book, sheet, i, j);
+    put_answer(outcome.answer);
+    put_session(outcome.session);
+    put_slice(book);
+    put_slice(sheet)
+}
+
+pub fn read(text: &[u8], list: &mut [u32]) -> bool {
+    let answer = recording::read(text, list);
+    put_word(answer.code as usize);
+    put_word(answer.place);
+    put_word(answer.n as usize);
+    put_word(answer.count);
+    put_slice(list)
+}
+
+// The bytes written go out through a room for words.
+pub fn write(n: u32, sheet: &[u32], count: usize, out: &mut [u8], words: &mut [u32]) -> bool {
+    let written = writing::write_sheet(n, sheet, count, out);
+    put_answer(written.answer);
+    put_word(written.length);
+    put_bytes(out, words)
+}
