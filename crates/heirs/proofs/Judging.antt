@@ -1,4 +1,4 @@
--- The tests for heirs as code makes them: one law for each way through.
+-- The mask of the heirs tells which they are, and whether there is one.
 use mathlib.Core.Path.{_≡_, refl, sym, ap, ap₂, _∙_}
 use mathlib.Core.Bool.{Bool, true, false}
 use mathlib.Core.List.{List, [], _++_, append-nil, List·Memᴰ as Mem, List·Memᴰ·head as here, List·Memᴰ·tail as there}
@@ -17,36 +17,6 @@ use Rattle.panel.specs.Transitions.{state}
 use Rattle.panel.specs.Contacts.{candidate}
 use Rattle.panel.proofs.Words.{single-i}
 use Rattle.heirs.specs.Heirs.{heirBy, heirsIn, heirMask, picked}
-
--- ---- the mask, relay by relay
-
-pub bit-then : (x : Bool) (v p : ℕ) → p ≡ 2 ^ v → x ≡ true → p ≡ bitIf x v
-bit-then x v p e t = e ∙ sym (ap (λ (y : Bool). bitIf y v) t)
-
-pub bit-else : (x : Bool) (v : ℕ) → x ≡ false → 0 ≡ bitIf x v
-bit-else x v t = sym (ap (λ (y : Bool). bitIf y v) t)
-
-pub mask-start : (f : ℕ → Bool) → 0 ≡ bitsWhere 0 f
-unfolding bitsWhere
-mask-start f = refl
-
-pub mask-more : (f : ℕ → Bool) (v m x : ℕ) (b : Bool) → m ≡ bitsWhere v f → b ≡ f v → x ≡ bitIf b v → m + x ≡ bitsWhere (v + 1) f
-unfolding bitsWhere
-mask-more f v m x b em eb ex = rw (add-one v) (ap₂ (λ (p q : ℕ). p + q) em (ex ∙ ap (λ (y : Bool). bitIf y v) eb))
-
-pub mask-small : (f : ℕ → Bool) (v m x : ℕ) (b : Bool) → v < 10 → m ≡ bitsWhere v f → x ≡ bitIf b v → m + x < 2048
-mask-small f v m x b l em ex = go b ex
-  where
-    low : m < 512
-    low = omega (arith, em, bits-lt v f, pow-mono {i = v} {j = 9} (omega arith))
-
-    go : (b : Bool) → x ≡ bitIf b v → m + x < 2048
-    go true e = omega (arith, low, e, pow-mono {i = v} {j = 9} (omega arith))
-    go false e = omega (arith, low, e)
-
-pub mask-end : (n t b v m : ℕ) (part : List ℕ) → v ≤ n → n ≤ v → m ≡ bitsWhere v (λ u. heirBy t b u part) → m ≡ heirMask n t b part
-unfolding heirMask
-mask-end n t b v m part h k e = let q : v ≡ n = omega arith in e ∙ ap (λ (z : ℕ). bitsWhere z (λ u. heirBy t b u part)) q
 
 -- ---- the mask tells the heirs
 

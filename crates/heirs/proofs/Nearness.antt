@@ -3,40 +3,29 @@ use mathlib.Core.Path.{_≡_, refl, sym, ap, ap₂, _∙_}
 use mathlib.Core.Logic.{_⊎_, inl, inr}
 use mathlib.Core.Bool.{Bool, true, false, not, _&&_, _||_, false≢true}
 use mathlib.Core.List.{List, [], _∷_}
-use Prim.Native.Nat.{ℕ, _+_, _≤_, _<_}
+use Prim.Native.Nat.{ℕ, _+_, _-_, _≤_, _<_}
 use native.Mathlib.Numerals.{add-one}
 use native.Mathlib.Omega.{arith}
-use lib.Bits.{bitOr}
+use lib.Bits.{bitAnd, bitOr}
 use lib.Dec.{eqb}
 use borrow.Author.Tests.{eqb-true}
 use lib.ListN.{length, drop, getD, drop-of-length-le}
 use lib.Seq.{drop-cons}
 use Rattle.table.specs.Lists.{any, all}
-use Rattle.table.proofs.Basics.{and-l, and-r, and-i, or-e, or-l, or-r, not-i, not-e, same-test, all-e, at-in}
-use Rattle.panel.specs.Masks.{on}
+use Rattle.table.proofs.Basics.{and-l, and-r, and-i, not-i, not-e, same-test, all-e, at-in}
+use Rattle.panel.specs.Masks.{on, bitsWhere}
 use Rattle.panel.specs.Rules.{head, validRule, covers, narrows}
 use Rattle.panel.specs.Transitions.{state, rests, spared}
 use Rattle.panel.specs.Contacts.{free, candidate, near, contactPlace}
-use Rattle.panel.proofs.Masks.{on-or-l, on-or-r, on-or-e, off-zero}
+use Rattle.panel.proofs.Masks.{on-or, on-less, off-zero, same-bits, bits-on, bits-lt}
 use Rattle.panel.proofs.Words.{rule-e, narrows-e}
 use Rattle.panel.proofs.Candidates.{added}
 use Rattle.panel.proofs.Near.{near-candidate}
 use Rattle.prime.proofs.Laws.{spared-e, hit-e}
-use Rattle.heirs.specs.Heirs.{blocked, heirBy, nearAll}
+use Rattle.heirs.specs.Heirs.{blocked, heirBy, heirMask, nearAll}
 use Rattle.heirs.proofs.Take.{spared-miss}
 
 -- ---- the pass
-
-on-or : (p a b : ℕ) → on p (bitOr a b) ≡ (on p a || on p b)
-on-or p a b = same-test (on p (bitOr a b)) (on p a || on p b) (λ e. to (on-or-e p a b e)) (λ e. from (or-e (on p a) (on p b) e))
-  where
-    to : (on p a ≡ true) ⊎ (on p b ≡ true) → (on p a || on p b) ≡ true
-    to (inl q) = or-l (on p a) (on p b) q
-    to (inr q) = or-r (on p a) (on p b) q
-
-    from : (on p a ≡ true) ⊎ (on p b ≡ true) → on p (bitOr a b) ≡ true
-    from (inl q) = on-or-l p a b q
-    from (inr q) = on-or-r p a b q
 
 or-assoc : (x y z : Bool) → ((x || y) || z) ≡ (x || (y || z))
 or-assoc true y z = refl
@@ -98,10 +87,10 @@ module _ (n t b : ℕ) (small : n ≤ 10) (rb : validRule n b ≡ true) (hit : s
       c : ℕ
       c = candidate b v (state t)
 
-  pub heir-seen : (v seen i : ℕ) (part : List ℕ) (x : Bool) → v < n → seen ≡ nearAll b 0 part → i ≡ state t
-      → x ≡ (free v b && not (on (contactPlace v i) seen)) → x ≡ heirBy t b v part
+  heir-seen : (v seen i : ℕ) (part : List ℕ) → v < n → seen ≡ nearAll b 0 part → i ≡ state t
+      → (free v b && not (on (contactPlace v i) seen)) ≡ heirBy t b v part
   unfolding heirBy blocked
-  heir-seen v seen i part x l es ei ex = ex ∙ ap₂ (λ (j k : ℕ). free v b && not (on (contactPlace v j) k)) ei es ∙ go (free v b) refl
+  heir-seen v seen i part l es ei = ap₂ (λ (j k : ℕ). free v b && not (on (contactPlace v j) k)) ei es ∙ go (free v b) refl
     where
       bars : free v b ≡ true → on (contactPlace v (state t)) (nearAll b 0 part) ≡ any (λ r. spared t r && narrows (candidate b v (state t)) r) part
       bars fr =
@@ -114,3 +103,17 @@ module _ (n t b : ℕ) (small : n ≤ 10) (rb : validRule n b ≡ true) (hit : s
           → (f && not (on (contactPlace v (state t)) (nearAll b 0 part))) ≡ (f && not (any (λ r. spared t r && narrows (candidate b v (state t)) r) part))
       go true fr = ap not (bars fr)
       go false fr = refl
+
+  -- the free relays whose contact no rule has alone beyond b are those of the heirs
+  pub heir-bits : (seen i frees barred : ℕ) (part : List ℕ) → seen ≡ nearAll b 0 part → i ≡ state t → frees ≡ bitsWhere n (λ v. free v b)
+      → barred ≡ bitsWhere 10 (λ v. on (contactPlace v i) seen) → frees - bitAnd frees barred ≡ heirMask n t b part
+  unfolding heirMask
+  heir-bits seen i frees barred part es ei eo eb =
+      same-bits n (frees - bitAnd frees barred) (bitsWhere n (λ v. heirBy t b v part)) (omega (arith, eo, bits-lt n (λ v. free v b))) (bits-lt n (λ v. heirBy t b v part))
+      (λ v l.
+      on-less v frees barred
+      ∙ ap₂ (λ (x y : Bool). x && not y)
+      (ap (on v) eo ∙ bits-on n (λ u. free u b) v l)
+      (ap (on v) eb ∙ bits-on 10 (λ u. on (contactPlace u i) seen) v (omega arith))
+      ∙ heir-seen v seen i part l es ei
+      ∙ sym (bits-on n (λ u. heirBy t b u part) v l))

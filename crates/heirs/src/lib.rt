@@ -1,13 +1,11 @@
 // Which candidates of a hit rule are heirs: one pass over a part of a sheet.
 ghost use mathlib.Core.Path.{_≡_};
-ghost use mathlib.Core.Bool.{true, false, not, _&&_};
-ghost use Prim.Native.Nat.{_<_, _≤_};
-ghost use Rattle.panel.specs.Masks.{on, bitIf};
+ghost use mathlib.Core.Bool.{true, false};
+ghost use Prim.Native.Nat.{_≤_};
 ghost use Rattle.panel.specs.Rules.{head, validRule};
 ghost use Rattle.table.specs.Lists.{all};
 ghost use lib.Dec.{eqb};
 ghost use Rattle.panel.specs.Transitions.{spared};
-ghost use Rattle.panel.specs.Contacts.{free, contactPlace};
 ghost use Rattle.heirs.specs.Heirs.{heirMask, nearAll};
 
 // The contacts that single rules of the part have beyond b, as bits of the word. All are rules of its head.
@@ -24,41 +22,13 @@ fn near_part(part: &[u32], b: u32) -> u32
     seen
 }
 
-// The relay v is free in b, and no rule bars the candidate there: none has its contact alone beyond b.
-fn is_heir(seen: u32, b: u32, v: u32, i: u32) -> bool
-    requires { ⌜ v < 10 ⌝ }
-    ensures { λ r. ⌜ r ≡ (free v b && not (on (contactPlace v i) seen)) ⌝ }
-{
-    if panel::is_free(v, b) {
-        !panel::is_on(panel::contact_place(v, i), seen)
-    } else {
-        false
-    }
-}
-
-// The bit of the relay v where the test passed, else 0.
-fn bit_if(x: bool, v: u32) -> u32
-    requires { ⌜ v < 10 ⌝ }
-    ensures { λ r. ⌜ r ≡ bitIf x v ⌝ }
-{
-    if x {
-        return panel::power(v);
-    }
-    0
-}
-
 // The relays below n whose candidates of the hit rule b are heirs, as far as the part, rules of its head, tells.
 pub fn heir_mask(part: &[u32], n: u32, t: u32, b: u32) -> u32
     requires { ⌜ (n ≤ 10) × (validRule n b ≡ true) × (spared t b ≡ false) × (all (λ r. eqb (head r) (head b)) (now part) ≡ true) ⌝ }
     ensures { λ r. ⌜ r ≡ heirMask n t b (now (part .entry)) ⌝ }
 {
     let seen = near_part(part, b);
-    let i = panel::state_of(t);
-    let mut mask: u32 = 0;
-    let mut v: u32 = 0;
-    while v < n {
-        mask += bit_if(is_heir(seen, b, v, i), v);
-        v += 1;
-    }
-    mask
+    let free = panel::free_relays(n, b);
+    let barred = panel::relays_against(seen, panel::state_of(t));
+    free - (free & barred)
 }

@@ -6,13 +6,13 @@ use Prim.Native.Nat.{ℕ, zero, suc, _+_, _-_, _/_, _%_, _^_, _≤_, _<_, suc-le
 use native.Mathlib.Nat.{div-one, pow-suc, div-div-eq-div-mul, mul-comm, mod-lt, zero-lt-suc, le-of-suc-le-suc, not-suc-le-zero, lt-suc-self, eq-or-lt-of-le, lt-irrefl, add-zero}
 use native.Mathlib.Omega.{arith}
 use lib.Arith.{bin-ind, lt-one}
-use lib.Bits.{bitAnd, bitOr, and-step, or-step, and-self, and-comm, and-zero-r, and-le-r}
+use lib.Bits.{bitAnd, bitOr, and-step, or-step, and-self, and-comm, and-zero-r, and-le-l, and-le-r}
 use lib.Dec.{eqb}
 use borrow.Author.Tests.{eqb-true, eq-eqb}
 use mathlib.Core.List.{[], _∷_, List·Memᴰ as Mem, List·Memᴰ·head as here}
 use lib.Pow.{pow-pos}
 use Rattle.panel.specs.Masks.{bitIf, bitsWhere, on, relays, allOn, allOff}
-use Rattle.table.proofs.Basics.{either, and-l, and-r, and-i, not-e, not-i, passes, each-i, all-e, all-i, same-test, false-test}
+use Rattle.table.proofs.Basics.{either, and-l, and-r, and-i, or-e, or-l, or-r, not-e, not-i, passes, each-i, all-e, all-i, same-test, false-test}
 
 -- ---- the tests as code makes them
 
@@ -273,6 +273,39 @@ sub-other u v x d p =
     let q : bit u x ≡ bit u (x - 2 ^ v) = ap (bit u) (sym e) ∙ k in
     same-test (on u (x - 2 ^ v)) (on u x) (λ o. bit-on u x (q ∙ on-bit u (x - 2 ^ v) o)) (λ o. bit-on u (x - 2 ^ v) (sym q ∙ on-bit u x o))
 
+-- ---- the bits of a that b lacks
+
+less-half : (a b : ℕ) → (a - bitAnd a b) / 2 ≡ a / 2 - bitAnd (a / 2) (b / 2)
+less-half a b = omega (arith, and-step a b, and-le-l (a / 2) (b / 2))
+
+less-odd : (a b : ℕ) → (a - bitAnd a b) % 2 ≡ a % 2 - min (a % 2) (b % 2)
+less-odd a b = omega (arith, and-step a b, and-le-l (a / 2) (b / 2))
+
+bit-less : (v a b : ℕ) → bit v (a - bitAnd a b) ≡ bit v a - min (bit v a) (bit v b)
+bit-less zero a b = bit-zero (a - bitAnd a b) ∙ less-odd a b ∙ ap₂ (λ (x y : ℕ). x - min x y) (sym (bit-zero a)) (sym (bit-zero b))
+bit-less (suc v) a b =
+    bit-suc v (a - bitAnd a b) ∙ ap (bit v) (less-half a b) ∙ bit-less v (a / 2) (b / 2)
+    ∙ ap₂ (λ (x y : ℕ). x - min x y) (sym (bit-suc v a)) (sym (bit-suc v b))
+
+pub on-less : (v a b : ℕ) → on v (a - bitAnd a b) ≡ (on v a && not (on v b))
+on-less v a b =
+    same-test (on v (a - bitAnd a b)) (on v a && not (on v b))
+    (λ e.
+    let k = on-bit v (a - bitAnd a b) e in
+    and-i (on v a) (not (on v b)) (bit-on v a (omega (arith, bit-less v a b, k, bit-lt v a)))
+    (not-i (on v b) (λ q. omega (arith, bit-less v a b, k, bit-lt v a, on-bit v b q))))
+    (λ e.
+    bit-on v (a - bitAnd a b)
+    (omega (arith, bit-less v a b, on-bit v a (and-l (on v a) (not (on v b)) e), off-bit v b (not-e (on v b) (and-r (on v a) (not (on v b)) e)))))
+
+pub on-and : (v a b : ℕ) → on v (bitAnd a b) ≡ (on v a && on v b)
+on-and v a b =
+    same-test (on v (bitAnd a b)) (on v a && on v b)
+    (λ e.
+    let k = on-bit v (bitAnd a b) e in
+    and-i (on v a) (on v b) (bit-on v a (omega (arith, bit-and v a b, k, bit-lt v a))) (bit-on v b (omega (arith, bit-and v a b, k, bit-lt v b))))
+    (λ e. bit-on v (bitAnd a b) (omega (arith, bit-and v a b, on-bit v a (and-l (on v a) (on v b) e), on-bit v b (and-r (on v a) (on v b) e))))
+
 -- ---- the complement, and numbers by their bits
 
 -- the bits of 2^n - 1 - x are those of x turned over
@@ -291,6 +324,10 @@ on-not (suc n) x zero l k p =
 on-not (suc n) x (suc v) l k p =
     on-suc v (2 ^ suc n - 1 - x) ∙ ap (on v) (half-not n x l)
     ∙ on-not n (x / 2) v (half-bound n x l) (le-of-suc-le-suc k) (λ q. p (on-suc v x ∙ q))
+
+pub on-complement : (n x v : ℕ) → x < 2 ^ n → v < n → on v (2 ^ n - 1 - x) ≡ not (on v x)
+on-complement n x v l k =
+    same-test (on v (2 ^ n - 1 - x)) (not (on v x)) (λ e. not-i (on v x) (λ q. not-on n x v l k q e)) (λ e. on-not n x v l k (not-e (on v x) e))
 
 -- two numbers below 2^n with the same bits are equal
 pub same-bits : (n a b : ℕ) → a < 2 ^ n → b < 2 ^ n → ((v : ℕ) → v < n → on v a ≡ on v b) → a ≡ b
@@ -323,6 +360,17 @@ on-or-e v a b p = go (either (on v a))
     go : (on v a ≡ true) ⊎ (on v a ≡ true → ⊥) → (on v a ≡ true) ⊎ (on v b ≡ true)
     go (inl q) = inl q
     go (inr q) = inr (bit-on v b (omega (arith, bit-or v a b, on-bit v (bitOr a b) p, off-bit v a q)))
+
+pub on-or : (v a b : ℕ) → on v (bitOr a b) ≡ (on v a || on v b)
+on-or v a b = same-test (on v (bitOr a b)) (on v a || on v b) (λ e. to (on-or-e v a b e)) (λ e. from (or-e (on v a) (on v b) e))
+  where
+    to : (on v a ≡ true) ⊎ (on v b ≡ true) → (on v a || on v b) ≡ true
+    to (inl q) = or-l (on v a) (on v b) q
+    to (inr q) = or-r (on v a) (on v b) q
+
+    from : (on v a ≡ true) ⊎ (on v b ≡ true) → on v (bitOr a b) ≡ true
+    from (inl q) = on-or-l v a b q
+    from (inr q) = on-or-r v a b q
 
 -- ---- the tests bit by bit are the tests by one `&`
 

@@ -1,20 +1,20 @@
 -- What one rule has beyond another: the one contact that bars a candidate, bit by bit and by one `&`.
 use mathlib.Core.Path.{_≡_, refl, sym, ap, ap₂, _∙_, subst}
 use mathlib.Core.Logic.{_⊎_, inl, inr}
-use mathlib.Core.Bool.{Bool, true, false, not, _&&_, cond, false≢true}
+use mathlib.Core.Bool.{Bool, true, false, not, _&&_, _||_, cond, false≢true}
 use Prim.Native.Nat.{ℕ, zero, suc, _+_, _-_, _*_, _/_, _%_, _^_, _≤_, _<_}
 use native.Mathlib.Nat.{pow-suc}
 use native.Mathlib.Omega.{arith}
-use lib.Bits.{bitAnd, and-step, and-self, and-le-l}
+use lib.Bits.{bitAnd, bitOr, and-step, and-self, and-le-l, or-lt}
 use lib.Dec.{eqb}
 use lib.Pow.{pow-pos, pow-add, field, mod-mod-pow, shr-shr}
 use borrow.Author.Tests.{eqb-true, eq-eqb}
-use Rattle.panel.specs.Masks.{on}
-use Rattle.panel.specs.Rules.{head, mustOn, mustOff, covers, narrows}
+use Rattle.panel.specs.Masks.{on, bitsWhere}
+use Rattle.panel.specs.Rules.{head, mustOn, mustOff, validRule, covers, narrows}
 use Rattle.panel.specs.Contacts.{free, contact, candidate, beyond, lone, near, placeBy, contactPlace}
 use Rattle.table.proofs.Basics.{and-l, and-r, and-i, not-e, not-i, either, same-test, passes, false-test}
-use Rattle.panel.proofs.Masks.{within, bit, bit-zero, bit-suc, bit-lt, bit-and, on-bit, bit-on, off-zero, within-on, apart-on, on-within, within-eq, eq-within, within-antisym}
-use Rattle.panel.proofs.Words.{Rule, Covers, narrows-e, covers-e, narrows-word, word-narrows, narrows-covers}
+use Rattle.panel.proofs.Masks.{within, bits-lt, bits-on, same-bits, on-complement, on-or, on-less, bit, bit-zero, bit-suc, on-and, on-bit, bit-on, off-zero, within-on, apart-on, on-within, within-eq, eq-within, within-antisym}
+use Rattle.panel.proofs.Words.{Rule, rule-e, mustOn-small, mustOff-small, Covers, narrows-e, covers-e, narrows-word, word-narrows, narrows-covers}
 use Rattle.panel.proofs.Candidates.{add-keeps, add-new, add-from, added, free-mustOn, free-mustOff}
 
 -- ---- one bit alone
@@ -119,26 +119,16 @@ module _ (b r : ℕ) where
       ∙ ap (λ (x : Bool). cond x (beyond b r) 0)
       (sym (and-i (eqb (head r) (head b)) (lone (beyond b r)) (eq-eqb (head r) (head b) h) (eq-eqb (bitAnd (beyond b r) (beyond b r - 1)) 0 (ap (λ (x : ℕ). bitAnd x (x - 1)) (sym e) ∙ z))))
 
-pub place-by : (v i : ℕ) (x : Bool) → x ≡ on v i → placeBy x v ≡ contactPlace v i
-unfolding contactPlace
-place-by v i x e = ap (λ (t : Bool). placeBy t v) e
-
-pub place-on : (v i : ℕ) (x : Bool) → x ≡ on v i → x ≡ true → v ≡ contactPlace v i
-place-on v i x e t = ap (λ (y : Bool). placeBy y v) (sym t) ∙ place-by v i x e
-
-pub place-off : (v i : ℕ) (x : Bool) → x ≡ on v i → x ≡ false → v + 10 ≡ contactPlace v i
-place-off v i x e t = ap (λ (y : Bool). placeBy y v) (sym t) ∙ place-by v i x e
-
 -- ---- the bits of a rule's word, and of its masks
 
 and-on-l : (v a b : ℕ) → on v (bitAnd a b) ≡ true → on v a ≡ true
-and-on-l v a b e = bit-on v a (omega (arith, bit-and v a b, on-bit v (bitAnd a b) e, bit-lt v a))
+and-on-l v a b e = and-l (on v a) (on v b) (sym (on-and v a b) ∙ e)
 
 and-on-r : (v a b : ℕ) → on v (bitAnd a b) ≡ true → on v b ≡ true
-and-on-r v a b e = bit-on v b (omega (arith, bit-and v a b, on-bit v (bitAnd a b) e, bit-lt v b))
+and-on-r v a b e = and-r (on v a) (on v b) (sym (on-and v a b) ∙ e)
 
 and-on : (v a b : ℕ) → on v a ≡ true → on v b ≡ true → on v (bitAnd a b) ≡ true
-and-on v a b p q = bit-on v (bitAnd a b) (omega (arith, bit-and v a b, on-bit v a p, on-bit v b q))
+and-on v a b p q = on-and v a b ∙ and-i (on v a) (on v b) p q
 
 -- with the bit p, that b lacks: c has all that r has exactly when r has nothing else beyond b
 module _ (p b c r : ℕ) (off : on p b ≡ true → ⊥) (is : c ≡ b + 2 ^ p) where
@@ -263,3 +253,60 @@ near-candidate n small b v i r rb lv fr cb =
 
     one : head c ≡ head b
     one = added n small b v rb lv fr i .one-head
+
+-- ---- all relays at once
+
+-- the relays that are in neither mask, as the code finds them
+pub free-bits : (n w s p m k : ℕ) → n ≤ 10 → validRule n w ≡ true → s ≡ 2 ^ n → p ≡ mustOn w → m ≡ mustOff w → k ≡ bitOr p m → s - 1 - k ≡ bitsWhere n (λ v. free v w)
+unfolding free
+free-bits n w s p m k small rr es ep em ek =
+    let r = rule-e n w rr in
+    let ok : k ≡ bitOr (mustOn w) (mustOff w) = ek ∙ ap₂ bitOr ep em in
+    let lk : k < 2 ^ n = subst (λ (x : ℕ). x < 2 ^ n) (sym ok) (or-lt n (mustOn w) (mustOff w) (r .mustOn-lt) (r .mustOff-lt)) in
+    ap (λ (x : ℕ). x - 1 - k) es
+    ∙ same-bits n (2 ^ n - 1 - k) (bitsWhere n (λ v. not (on v (mustOn w)) && not (on v (mustOff w)))) (omega (arith, pow-pos n)) (bits-lt n (λ v. not (on v (mustOn w)) && not (on v (mustOff w))))
+    (λ v l.
+    on-complement n k v lk l
+    ∙ ap not (ap (on v) ok ∙ on-or v (mustOn w) (mustOff w))
+    ∙ neither (on v (mustOn w)) (on v (mustOff w))
+    ∙ sym (bits-on n (λ u. not (on u (mustOn w)) && not (on u (mustOff w))) v l))
+  where
+    neither : (a b : Bool) → not (a || b) ≡ (not a && not b)
+    neither true b = refl
+    neither false b = refl
+
+-- the word is large enough for the differences
+pub free-room : (n w s p m k : ℕ) → n ≤ 10 → validRule n w ≡ true → s ≡ 2 ^ n → p ≡ mustOn w → m ≡ mustOff w → k ≡ bitOr p m → (1 ≤ s) × (k ≤ s - 1)
+free-room n w s p m k small rr es ep em ek =
+    let r = rule-e n w rr in
+    let l : bitOr (mustOn w) (mustOff w) < 2 ^ n = or-lt n (mustOn w) (mustOff w) (r .mustOn-lt) (r .mustOff-lt) in
+    (omega (arith, es, pow-pos n), omega (arith, es, ek ∙ ap₂ bitOr ep em, l))
+
+-- the relays whose contact was seen, as the code finds them
+pub against-bits : (seen i p m : ℕ) → p ≡ mustOn seen → m ≡ mustOff seen → bitOr (bitAnd m i) (p - bitAnd p i) ≡ bitsWhere 10 (λ v. on (contactPlace v i) seen)
+unfolding contactPlace
+against-bits seen i p m ep em =
+    same-bits 10 (bitOr (bitAnd m i) (p - bitAnd p i)) (bitsWhere 10 (λ v. on (placeBy (on v i) v) seen))
+    (or-lt 10 (bitAnd m i) (p - bitAnd p i) (omega (arith, and-le-l m i, em, mustOff-small seen)) (omega (arith, ep, mustOn-small seen)))
+    (bits-lt 10 (λ v. on (placeBy (on v i) v) seen))
+    (λ v l.
+    on-or v (bitAnd m i) (p - bitAnd p i)
+    ∙ ap₂ (λ (x y : Bool). x || y) (on-and v m i ∙ ap (λ (x : Bool). x && on v i) (ap (on v) em ∙ mustOff-bit v seen l))
+    (on-less v p i ∙ ap (λ (x : Bool). x && not (on v i)) (ap (on v) ep ∙ mustOn-bit v seen l))
+    ∙ either-way (on v i) v
+    ∙ sym (bits-on 10 (λ u. on (placeBy (on u i) u) seen) v l))
+  where
+    either-way : (x : Bool) (v : ℕ) → ((on v seen && x) || (on (v + 10) seen && not x)) ≡ on (placeBy x v) seen
+    either-way true v = first (on v seen) (on (v + 10) seen)
+      where
+        first : (a b : Bool) → ((a && true) || (b && false)) ≡ a
+        first true b = refl
+        first false true = refl
+        first false false = refl
+    either-way false v = second (on v seen) (on (v + 10) seen)
+      where
+        second : (a b : Bool) → ((a && false) || (b && true)) ≡ b
+        second true true = refl
+        second true false = refl
+        second false true = refl
+        second false false = refl

@@ -1,7 +1,8 @@
 // Panel words: sizes, states, transition words and rule words, and the tests on them.
 ghost use mathlib.Core.Path.{_≡_};
+ghost use mathlib.Core.Bool.{true};
 ghost use Prim.Native.Nat.{_^_, _<_, _≤_};
-ghost use Rattle.panel.specs.Masks.{panelSize, on};
+ghost use Rattle.panel.specs.Masks.{panelSize, on, bitsWhere};
 ghost use Rattle.panel.specs.Rules.{ruleWord, head, mustOn, mustOff, validRule, covers, contains, narrows};
 ghost use Rattle.panel.specs.Transitions.{transitionWord, state, next, observed, validTransition, rests, spared};
 ghost use Rattle.panel.specs.Contacts.{free, candidate, near, contactPlace};
@@ -199,13 +200,18 @@ pub fn near_rule(b: u32, r: u32) -> u32
     d
 }
 
-// Which bit of a rule's word is the contact on the relay v that disagrees with the state i.
-pub fn contact_place(v: u32, i: u32) -> u32
-    requires { ⌜ v < 10 ⌝ }
-    ensures { λ r. ⌜ r ≡ contactPlace v i ⌝ }
+// The relays below n that are free in the body of w.
+pub fn free_relays(n: u32, w: u32) -> u32
+    requires { ⌜ (n ≤ 10) × (validRule n w ≡ true) ⌝ }
+    ensures { λ r. ⌜ r ≡ bitsWhere n (λ v. free v w) ⌝ }
 {
-    if is_on(v, i) {
-        return v;
-    }
-    v + 10
+    power(n) - 1 - (must_on(w) | must_off(w))
+}
+
+// The relays whose contact that disagrees with the state i is among the bits seen.
+pub fn relays_against(seen: u32, i: u32) -> u32
+    ensures { λ r. ⌜ r ≡ bitsWhere 10 (λ v. on (contactPlace v i) seen) ⌝ }
+{
+    let p = must_on(seen);
+    (must_off(seen) & i) | (p - (p & i))
 }

@@ -1,3 +1,4 @@
+-- `heirs::near_part` meets its contract.
 use mathlib.Core.Path.{_≡_}
 use Prim.Native.Nat.{_≤_, _-_}
 use native.Mathlib.Omega.{arith}
@@ -6,13 +7,8 @@ use denote.Ref.{now}
 use borrow.Author.Needs.{needs}
 use Rattle.heirs.specs.Heirs.{nearAll}
 use Rattle.heirs.proofs.Nearness.{in-head, pass-start, pass-more, pass-end}
-use denote.Ref.{now}
-use borrow.Author.Needs.{needs}
 use Rattle.heirs.proofs.near_part.Statement.{statement}
 use Rattle.heirs.proofs.near_part.Tie as tie
-use Rattle.heirs.proofs.near_part.Reads as reads
-use Rattle.heirs.proofs.near_part.Lts as lts
-use Rattle.panel.proofs.near_rule.Reads as near-rule-reads
 
 abbrev Inv-loop : tie.InvT-loop
 Inv-loop part b seen₀ k₀ seen k = (k ≤ length part) × (nearAll b seen (drop k part) ≡ nearAll b 0 part)
@@ -20,35 +16,27 @@ Inv-loop part b seen₀ k₀ seen k = (k ≤ length part) × (nearAll b seen (dr
 abbrev μ-loop : tie.MeasureT-loop
 μ-loop part b seen₀ k₀ seen k = length part - k
 
--- src/lib.rt:17:5
 loop-holds : tie.Need-loop-holds Inv-loop μ-loop
 loop-holds c = (omega arith, pass-start _ _)
 
--- src/lib.rt:18:43
 mul-near-rule : tie.Need-mul-near-rule Inv-loop μ-loop
 mul-near-rule c = search needs
 
--- src/lib.rt:18:43
 shared-slice-read-near-rule : tie.Need-shared-slice-read-near-rule Inv-loop μ-loop
 shared-slice-read-near-rule c = search needs
 
--- src/lib.rt:18:23
 near-rule-requires : tie.Need-near-rule-requires Inv-loop μ-loop
 near-rule-requires c κs = in-head _ (now (c .before .before .before .before .args .part)) _ (c .before .before .before .before .pre) (c .before .loop-test .taken)
 
--- src/lib.rt:19:9
 add-k : tie.Need-add-k Inv-loop μ-loop
 add-k c = search needs
 
--- src/lib.rt:17:5
 loop-less : tie.Need-loop-less Inv-loop μ-loop
 loop-less c = search needs
 
--- src/lib.rt:17:5
 loop-again : tie.Need-loop-again Inv-loop μ-loop
 loop-again c = (omega arith, pass-more _ _ _ _ _ (c .before .before .loop-test .taken) (c .near-rule .ensures) (c .before .before .before .loop .inv .1))
 
--- src/lib.rt:12:1
 returns : tie.Need-returns Inv-loop μ-loop
 returns c = pass-end _ _ _ _ (c .loop-test .left) (c .before .loop .inv .1)
 

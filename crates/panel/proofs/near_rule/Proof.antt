@@ -1,29 +1,23 @@
+-- `panel::near_rule` meets its contract.
 use mathlib.Core.Path.{refl}
 use lib.Bits.{and-le-l}
 use Rattle.panel.proofs.Near.{near-none, near-more, near-one}
 use borrow.Author.Needs.{needs}
 use Rattle.panel.proofs.near_rule.Statement.{statement}
 use Rattle.panel.proofs.near_rule.Tie as tie
-use Rattle.panel.proofs.near_rule.Reads as reads
-use Rattle.panel.proofs.near_rule.Lts as lts
 
--- src/lib.rt:192:13
 sub-d : tie.Need-sub-d
 sub-d c = and-le-l _ _
 
--- src/lib.rt:194:9
 returns : tie.Need-returns
 returns c = near-none _ _ _ refl (c .if1 .taken)
 
--- src/lib.rt:196:13
 sub-if2 : tie.Need-sub-if2
 sub-if2 c = search needs
 
--- src/lib.rt:197:9
 returns-2 : tie.Need-returns-2
 returns-2 c = near-more _ _ _ refl (c .if2 .taken)
 
--- src/lib.rt:188:1
 returns-3 : tie.Need-returns-3
 returns-3 c = near-one _ _ _ refl (c .before .before .pre) (c .if2 .left)
 
