@@ -4,10 +4,10 @@ use Rattle.desk.proofs.main.Statement.{statement}
 use Rattle.desk.proofs.main.Tie as tie
 
 abbrev Inv-loop : tie.InvT-loop
-Inv-loop a₀ b₀ c₀ d₀ book₀ sheet₀ text₀ turns₀ a b c d book sheet text turns = Unit {0}
+Inv-loop a₀ b₀ c₀ d₀ book₀ sheet₀ text₀ out₀ turns₀ a b c d book sheet text out turns = Unit {0}
 
 abbrev μ-loop : tie.MeasureT-loop
-μ-loop a₀ b₀ c₀ d₀ book₀ sheet₀ text₀ turns₀ a b c d book sheet text turns = turns
+μ-loop a₀ b₀ c₀ d₀ book₀ sheet₀ text₀ out₀ turns₀ a b c d book sheet text out turns = turns
 
 loop-holds : tie.Need-loop-holds Inv-loop μ-loop
 loop-holds c = tt
