@@ -124,7 +124,13 @@ impl Tally {
     /// What keeps the tally from passing: faults of the streams, outcomes that can occur and were
     /// never reached, and outcomes reached that cannot occur.
     pub fn failures(&self) -> Vec<String> {
-        let targets = targets();
+        self.failures_but(None)
+    }
+
+    /// The same where no case of one call is expected.
+    pub fn failures_but(&self, skipped: Option<u64>) -> Vec<String> {
+        let mut targets = targets();
+        targets.retain(|(call, _)| Some(*call) != skipped);
         let mut failures = self.faults.clone();
         for (call, outcome) in &targets {
             if !self.counts.contains_key(&(*call, *outcome)) {

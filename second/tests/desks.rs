@@ -1,7 +1,7 @@
 //! Requests and answers as bytes, the seeded cases, and the tally.
 
-use second::cases::{examples, requests};
-use second::desk::{bytes_of, serve, MOST_ELEMENTS};
+use second::cases::{examples, malformed, requests, requests_but};
+use second::desk::{bytes_of, serve, MOST_ELEMENTS, RUN};
 use second::tally::{printed_outcome, targets, Outcome, Tally};
 
 /// The answers to a stream, and whether it ended between two requests.
@@ -59,28 +59,15 @@ fn one_request_of_each_call() {
 fn a_malformed_request_ends_the_stream() {
     let good = [1, 2, 0];
     let answer = [9, 0, 0, 0, 0, 0];
-    let malformed: [&[u64]; 12] = [
-        &[0],
-        &[11],
-        &[u64::MAX],
-        &[1],
-        &[1, 2],
-        &[1, 2, 1],
-        &[1, 1 << 32, 0],
-        &[1, 2, 1, 1 << 32],
-        &[2, 1, 1 << 32, 0, 0, 0, 0, 0],
-        &[8, 1, 256, 0],
-        &[1, 2, MOST_ELEMENTS + 1],
-        &[1, 2, u64::MAX],
-    ];
-    for words in malformed {
-        let stream = [&good[..], words, &good[..]].concat();
-        // The words after it may make good what is only cut short: so it also ends the input.
-        if words.len() > 3 || words[0] > 10 || words[0] == 0 {
-            assert_eq!(served(&bytes_of(&stream)), (answer.to_vec(), false), "{words:?}");
+    for words in malformed() {
+        // What follows may make good a request that is only cut short: so it also ends the input.
+        for stream in [[&good[..], &words].concat(), [&good[..], &words, &good].concat()] {
+            let (answers, ended_well) = served(&bytes_of(&stream));
+            if stream.len() == good.len() + words.len() {
+                assert_eq!((&answers[..], ended_well), (&answer[..], false), "{words:?}");
+            }
+            assert_eq!(answers[..6], answer, "{words:?}");
         }
-        let stream = [&good[..], words].concat();
-        assert_eq!(served(&bytes_of(&stream)), (answer.to_vec(), false), "{words:?}");
     }
     let mut half_a_word = bytes_of(&good);
     half_a_word.push(0);
@@ -132,6 +119,17 @@ fn a_code_never_reached_or_never_possible_fails() {
     assert_eq!(tally.failures().len(), targets().len() - 1);
     tally.count(&request, &[10, 0, 0, 0, 0, 0]);
     assert!(tally.failures().contains(&"fresh: code 10 cannot occur".to_string()));
+}
+
+#[test]
+fn a_skipped_call_is_neither_asked_nor_expected() {
+    let mut tally = Tally::default();
+    for request in requests_but(200, 0, Some(RUN)) {
+        assert_ne!(request.shape.call, RUN);
+        tally.count(&request, &request.answer());
+    }
+    assert_eq!(tally.failures_but(Some(RUN)), Vec::<String>::new());
+    assert_ne!(tally.failures(), Vec::<String>::new());
 }
 
 #[test]

@@ -95,6 +95,22 @@ pub fn read(text: &[u8], list: &mut [u32]) -> bool {
     put_slice(list)
 }
 
+pub fn run(
+    text: &[u8],
+    list: &mut [u32],
+    book: &mut [u32],
+    sheet: &mut [u32],
+    out: &mut [u8],
+    words: &mut [u32],
+) -> bool {
+    let length = program::run(text, list, book, sheet, out);
+    put_word(length);
+    put_slice(list);
+    put_slice(book);
+    put_slice(sheet);
+    put_bytes(out, words)
+}
+
 // The bytes written go out through a room for words.
 pub fn write(n: u32, sheet: &[u32], count: usize, out: &mut [u8], words: &mut [u32]) -> bool {
     let written = writing::write_sheet(n, sheet, count, out);

@@ -235,3 +235,42 @@ pub fn write(sheet: &mut [u32], out: &mut [u8], words: &mut [u32]) -> bool {
     }
     answering::write(n, &sheet[..s], count, &mut out[..o], words)
 }
+
+pub fn run(
+    text: &mut [u8],
+    list: &mut [u32],
+    book: &mut [u32],
+    sheet: &mut [u32],
+    out: &mut [u8],
+    words: &mut [u32],
+) -> bool {
+    let t = next_bytes(words, text);
+    if t > text.len() {
+        return false;
+    }
+    let l = next_slice(list);
+    if l > list.len() {
+        return false;
+    }
+    let b = next_slice(book);
+    if b > book.len() {
+        return false;
+    }
+    let s = next_slice(sheet);
+    if s > sheet.len() {
+        return false;
+    }
+    let o = next_bytes(words, out);
+    if o > out.len() {
+        return false;
+    }
+    let input = &text[..t];
+    answering::run(
+        input,
+        &mut list[..l],
+        &mut book[..b],
+        &mut sheet[..s],
+        &mut out[..o],
+        words,
+    )
+}

@@ -15,6 +15,7 @@ fn answer_next(
     book: &mut [u32; 65536],
     sheet: &mut [u32; 65536],
     text: &mut [u8; 65536],
+    out: &mut [u8; 65536],
 ) -> bool {
     let next = input::next_word();
     let Word::Is(call) = next else {
@@ -30,7 +31,7 @@ fn answer_next(
         7 => calling::session_take(book, sheet),
         8 => calling::read(text, a),
         9 => calling::write(sheet, text, a),
-        // Call 10, run, comes here with the crate that has it.
+        10 => calling::run(text, a, book, sheet, out, b),
         _ => false,
     }
 }
@@ -43,6 +44,7 @@ fn main() {
     let mut book = [0u32; 65536];
     let mut sheet = [0u32; 65536];
     let mut text = [0u8; 65536];
+    let mut out = [0u8; 65536];
     // A proved loop has to end, and nothing says that the input does: no run uses these turns up.
     let mut turns = u64::MAX;
     while turns > 0
@@ -54,6 +56,7 @@ fn main() {
             &mut book,
             &mut sheet,
             &mut text,
+            &mut out,
         )
     {
         turns -= 1;

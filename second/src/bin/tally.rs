@@ -1,5 +1,6 @@
-//! `tally REQUESTS ANSWERS`: how many cases of each call and code two files hold. Fails if a code
-//! that can occur in a call was never reached there, or one that cannot was.
+//! `tally REQUESTS ANSWERS [--skip CALL]`: how many cases of each call and code two files hold.
+//! Fails if a code that can occur in a call was never reached there, or one that cannot was; of a
+//! skipped call none is expected.
 
 use std::fs::File;
 use std::io::{self, BufReader};
@@ -9,12 +10,18 @@ use second::tally::Tally;
 
 fn main() -> ExitCode {
     let arguments: Vec<String> = std::env::args().skip(1).collect();
-    let [requests, answers] = &arguments[..] else {
-        eprintln!("usage: tally REQUESTS ANSWERS");
-        return ExitCode::from(2);
+    let (requests, answers, skipped) = match &arguments[..] {
+        [requests, answers] => (requests, answers, None),
+        [requests, answers, skip, call] if skip == "--skip" => {
+            (requests, answers, call.parse().ok())
+        }
+        _ => {
+            eprintln!("usage: tally REQUESTS ANSWERS [--skip CALL]");
+            return ExitCode::from(2);
+        }
     };
     match tally(requests, answers) {
-        Ok(tally) => report(&tally),
+        Ok(tally) => report(&tally, skipped),
         Err(error) => {
             eprintln!("tally: {error}");
             ExitCode::FAILURE
@@ -28,9 +35,9 @@ fn tally(requests: &str, answers: &str) -> io::Result<Tally> {
     Tally::of_streams(&mut requests, &mut answers)
 }
 
-fn report(tally: &Tally) -> ExitCode {
+fn report(tally: &Tally, skipped: Option<u64>) -> ExitCode {
     print!("{}", tally.table());
-    let failures = tally.failures();
+    let failures = tally.failures_but(skipped);
     for failure in &failures {
         println!("FAILED {failure}");
     }

@@ -53,6 +53,9 @@ fn bench_examples() -> Vec<Request> {
             vec![vec![word(7, 3), RUBBISH], vec![0, 1048576, 2097153, 2097154, 2097156, RUBBISH]],
         ),
         learn(3, &recording, 8, 40),
+        // K9's largest sheet on the way has seven rules.
+        learn(3, &recording, 8, 7),
+        learn(3, &recording, 8, 6),
         made(WRITE, vec![3, 3], vec![k9.clone(), rubbish(60)]),
         made(APPLY, vec![3, 5, 3], vec![k9]),
         made(

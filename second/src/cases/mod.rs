@@ -2,13 +2,17 @@
 
 pub mod dice;
 mod examples;
+mod large;
 mod lending;
+mod malformed;
 mod requests;
 mod texts;
 
 pub use examples::examples;
+pub use large::large;
+pub use malformed::malformed;
 
-use crate::desk::{Request, SHAPES};
+use crate::desk::{Request, Shape, SHAPES};
 use crate::tally::{outcome_of, targets, Outcome};
 use dice::Dice;
 
@@ -17,12 +21,18 @@ const MOST_TRIES: u32 = 100_000;
 
 /// The requests of a seed: first one for each outcome that can occur in each call, then any.
 pub fn requests(cases: u64, seed: u64) -> impl Iterator<Item = Request> {
+    requests_but(cases, seed, None)
+}
+
+/// The same without one of the calls.
+pub fn requests_but(cases: u64, seed: u64, skipped: Option<u64>) -> impl Iterator<Item = Request> {
     let mut dice = Dice::new(seed);
-    let mut wanted = targets().into_iter();
+    let mut wanted = targets().into_iter().filter(move |(call, _)| Some(*call) != skipped);
+    let shapes: Vec<&Shape> = SHAPES.iter().filter(|shape| Some(shape.call) != skipped).collect();
     (0..cases).map(move |_| match wanted.next() {
         Some((call, outcome)) => request_with(&mut dice, call, outcome),
         None => {
-            let call = dice.pick(&SHAPES).call;
+            let call = dice.pick(&shapes).call;
             requests::request(&mut dice, call)
         }
     })

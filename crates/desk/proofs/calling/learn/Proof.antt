@@ -1,4 +1,4 @@
--- `desk::calling::learn` is safe and ends.
+-- `desk::calling::learn` is safe and ends: each part that it lends lies within its room.
 use mathlib.Core.Path.{sym}
 use native.Mathlib.Omega.{arith}
 use borrow.Author.Needs.{needs}

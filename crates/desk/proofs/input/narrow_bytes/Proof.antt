@@ -1,11 +1,10 @@
+-- `desk::input::narrow_bytes` is safe and ends: the count lies within both slices.
 use mathlib.Core.Path.{_≡_, refl}
 use native.Mathlib.Omega.{arith}
 use lib.ListN.{length, length-set}
 use Prim.Native.Nat.{_-_}
 use Rattle.desk.proofs.input.narrow_bytes.Statement.{statement}
 use Rattle.desk.proofs.input.narrow_bytes.Tie as tie
-use Rattle.desk.proofs.input.narrow_bytes.Reads as reads
-use Rattle.desk.proofs.input.narrow_bytes.Lts as lts
 
 abbrev Inv-loop : tie.InvT-loop
 Inv-loop elements bytes₀ count i₀ bytes i = length bytes ≡ length bytes₀

@@ -1,3 +1,4 @@
+-- `desk::input::next_elements` is safe and ends: each chunk lies within the part, and the place moves on.
 use mathlib.Core.Path.{_≡_, refl}
 use native.Mathlib.Omega.{arith}
 use borrow.Author.Needs.{needs}
@@ -5,10 +6,6 @@ use lib.ListN.{length}
 use Prim.Native.Nat.{_-_, _≤_}
 use Rattle.desk.proofs.input.next_elements.Statement.{statement}
 use Rattle.desk.proofs.input.next_elements.Tie as tie
-use Rattle.desk.proofs.input.next_elements.Reads as reads
-use Rattle.desk.proofs.input.next_elements.Lts as lts
-use Rattle.desk.proofs.input.chunk_end.Reads as chunk-end-reads
-use Rattle.desk.proofs.input.next_chunk.Reads as next-chunk-reads
 
 abbrev Inv-loop : tie.InvT-loop
 Inv-loop part₀ at₀ part at = length part ≡ length part₀
@@ -16,55 +13,42 @@ Inv-loop part₀ at₀ part at = length part ≡ length part₀
 abbrev μ-loop : tie.MeasureT-loop
 μ-loop part₀ at₀ part at = length part₀ - at
 
--- src/input.rt:96:5
 loop-holds : tie.Need-loop-holds Inv-loop μ-loop
 loop-holds c = refl
 
--- src/input.rt:97:13
 chunk-end-requires : tie.Need-chunk-end-requires Inv-loop μ-loop
 chunk-end-requires c κs = omega arith
 
--- src/input.rt:98:24
 mul-next-chunk : tie.Need-mul-next-chunk Inv-loop μ-loop
 mul-next-chunk c = omega arith
 
--- src/input.rt:98:24
 sub-next-chunk : tie.Need-sub-next-chunk Inv-loop μ-loop
 sub-next-chunk c = omega arith
 
--- src/input.rt:98:24
 part-next-chunk-start : tie.Need-part-next-chunk-start Inv-loop μ-loop
 part-next-chunk-start c = omega arith
 
--- src/input.rt:98:24
 part-next-chunk-end : tie.Need-part-next-chunk-end Inv-loop μ-loop
 part-next-chunk-end c = omega arith
 
--- src/input.rt:98:13
 next-chunk-requires : tie.Need-next-chunk-requires Inv-loop μ-loop
 next-chunk-requires c κs = omega arith
 
--- src/input.rt:99:13
 same-length : tie.Need-same-length Inv-loop μ-loop
 same-length c = omega arith
 
--- src/input.rt:99:13
 returns : tie.Need-returns Inv-loop μ-loop
 returns c = tt
 
--- src/input.rt:96:5
 loop-less : tie.Need-loop-less Inv-loop μ-loop
 loop-less c = omega arith
 
--- src/input.rt:96:5
 loop-again : tie.Need-loop-again Inv-loop μ-loop
 loop-again c = omega arith
 
--- src/input.rt:94:1
 same-length-2 : tie.Need-same-length-2 Inv-loop μ-loop
 same-length-2 c = omega arith
 
--- src/input.rt:94:1
 returns-2 : tie.Need-returns-2 Inv-loop μ-loop
 returns-2 c = tt
 

@@ -1,13 +1,10 @@
+-- `desk::output::encode` is safe and ends: the bytes have room for eight of each element.
 use mathlib.Core.Path.{_≡_, refl}
 use native.Mathlib.Omega.{arith}
 use lib.ListN.{length}
 use Prim.Native.Nat.{_-_}
 use Rattle.desk.proofs.output.encode.Statement.{statement}
 use Rattle.desk.proofs.output.encode.Tie as tie
-use Rattle.desk.proofs.output.encode.Reads as reads
-use Rattle.desk.proofs.output.encode.Lts as lts
-use Rattle.desk.proofs.output.set_word.Reads as set-word-reads
-use Rattle.desk.proofs.output.wide.Reads as wide-reads
 
 abbrev Inv-loop : tie.InvT-loop
 Inv-loop part bytes₀ i₀ bytes i = length bytes ≡ length bytes₀
@@ -15,47 +12,36 @@ Inv-loop part bytes₀ i₀ bytes i = length bytes ≡ length bytes₀
 abbrev μ-loop : tie.MeasureT-loop
 μ-loop part bytes₀ i₀ bytes i = length part - i
 
--- src/output.rt:39:5
 loop-holds : tie.Need-loop-holds Inv-loop μ-loop
 loop-holds c = refl
 
--- src/output.rt:40:25
 mul-set-word : tie.Need-mul-set-word Inv-loop μ-loop
 mul-set-word c = omega arith
 
--- src/output.rt:40:37
 mul-wide : tie.Need-mul-wide Inv-loop μ-loop
 mul-wide c = omega arith
 
--- src/output.rt:40:37
 shared-slice-read-wide : tie.Need-shared-slice-read-wide Inv-loop μ-loop
 shared-slice-read-wide c = omega arith
 
--- src/output.rt:40:32
 wide-requires : tie.Need-wide-requires Inv-loop μ-loop
 wide-requires c κs = tt
 
--- src/output.rt:40:9
 set-word-requires : tie.Need-set-word-requires Inv-loop μ-loop
 set-word-requires c κs = omega arith
 
--- src/output.rt:41:9
 add-i : tie.Need-add-i Inv-loop μ-loop
 add-i c = omega arith
 
--- src/output.rt:39:5
 loop-less : tie.Need-loop-less Inv-loop μ-loop
 loop-less c = omega arith
 
--- src/output.rt:39:5
 loop-again : tie.Need-loop-again Inv-loop μ-loop
 loop-again c = omega arith
 
--- src/output.rt:35:1
 same-length : tie.Need-same-length Inv-loop μ-loop
 same-length c = omega arith
 
--- src/output.rt:35:1
 returns : tie.Need-returns Inv-loop μ-loop
 returns c = tt
 

@@ -1,3 +1,4 @@
+-- `desk::output::put_slice` is safe and ends: each chunk lies within the part, and the place moves on.
 use mathlib.Core.Path.{_≡_, refl}
 use native.Mathlib.Omega.{arith}
 use borrow.Author.Needs.{needs}
@@ -5,10 +6,6 @@ use lib.ListN.{length}
 use Prim.Native.Nat.{_-_, _≤_}
 use Rattle.desk.proofs.output.put_slice.Statement.{statement}
 use Rattle.desk.proofs.output.put_slice.Tie as tie
-use Rattle.desk.proofs.output.put_slice.Reads as reads
-use Rattle.desk.proofs.output.put_slice.Lts as lts
-use Rattle.desk.proofs.input.chunk_end.Reads as chunk-end-reads
-use Rattle.desk.proofs.output.put_chunk.Reads as put-chunk-reads
 
 abbrev Inv-loop : tie.InvT-loop
 Inv-loop part at₀ at = Unit {0}
@@ -16,47 +13,36 @@ Inv-loop part at₀ at = Unit {0}
 abbrev μ-loop : tie.MeasureT-loop
 μ-loop part at₀ at = length part - at
 
--- src/output.rt:63:5
 loop-holds : tie.Need-loop-holds Inv-loop μ-loop
 loop-holds c = tt
 
--- src/output.rt:64:13
 chunk-end-requires : tie.Need-chunk-end-requires Inv-loop μ-loop
 chunk-end-requires c κs = omega arith
 
--- src/output.rt:65:23
 mul-put-chunk : tie.Need-mul-put-chunk Inv-loop μ-loop
 mul-put-chunk c = omega arith
 
--- src/output.rt:65:23
 sub-put-chunk : tie.Need-sub-put-chunk Inv-loop μ-loop
 sub-put-chunk c = omega arith
 
--- src/output.rt:65:23
 part-put-chunk-start : tie.Need-part-put-chunk-start Inv-loop μ-loop
 part-put-chunk-start c = omega arith
 
--- src/output.rt:65:23
 part-put-chunk-end : tie.Need-part-put-chunk-end Inv-loop μ-loop
 part-put-chunk-end c = omega arith
 
--- src/output.rt:65:13
 put-chunk-requires : tie.Need-put-chunk-requires Inv-loop μ-loop
 put-chunk-requires c κs = omega arith
 
--- src/output.rt:66:13
 returns : tie.Need-returns Inv-loop μ-loop
 returns c = tt
 
--- src/output.rt:63:5
 loop-less : tie.Need-loop-less Inv-loop μ-loop
 loop-less c = omega arith
 
--- src/output.rt:63:5
 loop-again : tie.Need-loop-again Inv-loop μ-loop
 loop-again c = tt
 
--- src/output.rt:61:1
 returns-2 : tie.Need-returns-2 Inv-loop μ-loop
 returns-2 c = tt
 

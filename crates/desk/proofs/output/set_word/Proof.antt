@@ -1,12 +1,10 @@
+-- `desk::output::set_word` is safe and ends: the eight places lie within the bytes.
 use mathlib.Core.Path.{_≡_, refl}
 use native.Mathlib.Omega.{arith}
 use lib.ListN.{length, length-set}
 use Prim.Native.Nat.{_-_}
 use Rattle.desk.proofs.output.set_word.Statement.{statement}
 use Rattle.desk.proofs.output.set_word.Tie as tie
-use Rattle.desk.proofs.output.set_word.Reads as reads
-use Rattle.desk.proofs.output.set_word.Lts as lts
-use Rattle.desk.proofs.output.low_byte.Reads as low-byte-reads
 
 abbrev Inv-loop : tie.InvT-loop
 Inv-loop bytes₀ at x left₀ k₀ bytes left k = length bytes ≡ length bytes₀
@@ -14,39 +12,30 @@ Inv-loop bytes₀ at x left₀ k₀ bytes left k = length bytes ≡ length bytes
 abbrev μ-loop : tie.MeasureT-loop
 μ-loop bytes₀ at x left₀ k₀ bytes left k = 8 - k
 
--- src/output.rt:22:5
 loop-holds : tie.Need-loop-holds Inv-loop μ-loop
 loop-holds c = refl
 
--- src/output.rt:23:25
 low-byte-requires : tie.Need-low-byte-requires Inv-loop μ-loop
 low-byte-requires c κs = tt
 
--- src/output.rt:23:15
 add-bytes : tie.Need-add-bytes Inv-loop μ-loop
 add-bytes c = omega arith
 
--- src/output.rt:23:9
 slice-write-bytes : tie.Need-slice-write-bytes Inv-loop μ-loop
 slice-write-bytes c = omega arith
 
--- src/output.rt:25:9
 add-k : tie.Need-add-k Inv-loop μ-loop
 add-k c = omega arith
 
--- src/output.rt:22:5
 loop-less : tie.Need-loop-less Inv-loop μ-loop
 loop-less c = omega arith
 
--- src/output.rt:22:5
 loop-again : tie.Need-loop-again Inv-loop μ-loop
 loop-again c = simp length-set (omega arith)
 
--- src/output.rt:17:1
 same-length : tie.Need-same-length Inv-loop μ-loop
 same-length c = omega arith
 
--- src/output.rt:17:1
 returns : tie.Need-returns Inv-loop μ-loop
 returns c = tt
 

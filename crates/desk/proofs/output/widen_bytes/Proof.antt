@@ -1,11 +1,10 @@
+-- `desk::output::widen_bytes` is safe and ends: there are as many elements as bytes.
 use mathlib.Core.Path.{_≡_, refl}
 use native.Mathlib.Omega.{arith}
 use lib.ListN.{length, length-set}
 use Prim.Native.Nat.{_-_}
 use Rattle.desk.proofs.output.widen_bytes.Statement.{statement}
 use Rattle.desk.proofs.output.widen_bytes.Tie as tie
-use Rattle.desk.proofs.output.widen_bytes.Reads as reads
-use Rattle.desk.proofs.output.widen_bytes.Lts as lts
 
 abbrev Inv-loop : tie.InvT-loop
 Inv-loop bytes elements₀ i₀ elements i = length elements ≡ length elements₀
@@ -13,43 +12,33 @@ Inv-loop bytes elements₀ i₀ elements i = length elements ≡ length elements
 abbrev μ-loop : tie.MeasureT-loop
 μ-loop bytes elements₀ i₀ elements i = length bytes - i
 
--- src/output.rt:70:5
 loop-holds : tie.Need-loop-holds Inv-loop μ-loop
 loop-holds c = refl
 
--- src/output.rt:71:23
 shared-slice-read-elements : tie.Need-shared-slice-read-elements Inv-loop μ-loop
 shared-slice-read-elements c = omega arith
 
--- src/output.rt:71:23
 cast-elements : tie.Need-cast-elements Inv-loop μ-loop
 cast-elements c = omega (arith, c .shared-slice-known .given (c .before .before .loop .i))
 
--- src/output.rt:71:9
 mul-elements : tie.Need-mul-elements Inv-loop μ-loop
 mul-elements c = omega arith
 
--- src/output.rt:71:9
 slice-write-elements : tie.Need-slice-write-elements Inv-loop μ-loop
 slice-write-elements c = omega arith
 
--- src/output.rt:72:9
 add-i : tie.Need-add-i Inv-loop μ-loop
 add-i c = omega arith
 
--- src/output.rt:70:5
 loop-less : tie.Need-loop-less Inv-loop μ-loop
 loop-less c = omega arith
 
--- src/output.rt:70:5
 loop-again : tie.Need-loop-again Inv-loop μ-loop
 loop-again c = simp length-set (omega arith)
 
--- src/output.rt:66:1
 same-length : tie.Need-same-length Inv-loop μ-loop
 same-length c = omega arith
 
--- src/output.rt:66:1
 returns : tie.Need-returns Inv-loop μ-loop
 returns c = tt
 

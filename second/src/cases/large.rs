@@ -1,0 +1,146 @@
+//! Some requests of ten relays with large sheets, and slices of the greatest length.
+
+use super::dice::Dice;
+use super::requests::made;
+use crate::desk::{
+    Request, APPLY, FRESH, JOIN, LEARN, MOST_ELEMENTS, READ, SESSION_TAKE, TAKE, WRITE,
+};
+use crate::panel::{Transition, MOST_RELAYS};
+use crate::sheets::{sheet_after_take, sheet_of_join, sheet_of_set};
+use crate::text::sheet_text;
+
+const N: u64 = MOST_RELAYS as u64;
+const SEED: u64 = 10;
+const RUBBISH: u64 = 77;
+
+/// The large requests, always the same: exactly enough room, and one short.
+pub fn large() -> Vec<Request> {
+    let mut dice = Dice::new(SEED);
+    let set = any_set(&mut dice, 41);
+    let (first, rest) = set.split_at(20);
+    let (second, last) = (&rest[..20], rest[20]);
+    [
+        learns(&set[..30]),
+        takes(&set[..40], last),
+        joins(first, second),
+        applied_and_written(&set[..12]),
+        vec![elementary(110), elementary(30)],
+        longest(),
+    ]
+    .concat()
+}
+
+/// Transitions of different states.
+fn any_set(dice: &mut Dice, count: usize) -> Vec<Transition> {
+    let mut states: Vec<u32> = (0..1 << N).collect();
+    dice.shuffle(&mut states);
+    let any = |state: &u32| Transition { state: *state, successor: dice.below(1 << N) as u32 };
+    states[..count].iter().map(any).collect()
+}
+
+fn rubbish(room: usize) -> Vec<u64> {
+    vec![RUBBISH; room]
+}
+
+fn widened(words: &[u32]) -> Vec<u64> {
+    words.iter().map(|word| u64::from(*word)).collect()
+}
+
+fn words_of(set: &[Transition]) -> Vec<u64> {
+    set.iter().map(|transition| u64::from(transition.word())).collect()
+}
+
+/// A book with so much room more.
+fn book_of(set: &[Transition], more: usize) -> Vec<u64> {
+    let mut book = words_of(set);
+    book.sort_unstable();
+    book.extend(rubbish(more));
+    book
+}
+
+fn learns(set: &[Transition]) -> Vec<Request> {
+    let counts = (0..=set.len()).map(|words| sheet_of_set(N as u32, &set[..words]).count());
+    let most = counts.max().expect("the sheet of no words") as usize;
+    let learn = |book_room: usize, sheet_room: usize| {
+        made(LEARN, vec![N], vec![words_of(set), rubbish(book_room), rubbish(sheet_room)])
+    };
+    let books = set.len();
+    vec![learn(books, most), learn(books, most - 1), learn(books - 1, most), learn(books, 20_000)]
+}
+
+fn takes(set: &[Transition], last: Transition) -> Vec<Request> {
+    let old = sheet_of_set(N as u32, set).words();
+    let new = sheet_after_take(N as u32, &old, last);
+    let most = old.len().max(new.len());
+    let mut requests = Vec::new();
+    for room in [most, most - 1, most + 9] {
+        let mut sheet = widened(&old);
+        sheet.resize(room.max(old.len()), RUBBISH);
+        let counts = [set.len() as u64, old.len() as u64];
+        let states = [u64::from(last.state), u64::from(last.successor)];
+        let numbers = [&[N], &states[..], &counts].concat();
+        requests.push(made(TAKE, numbers, vec![book_of(set, 1), sheet.clone()]));
+        // Totals that balance: N + added = sheet count + struck.
+        let totals = [100, 100 + old.len() as u64 - N];
+        let numbers = [&[N], &counts[..], &totals, &states].concat();
+        requests.push(made(SESSION_TAKE, numbers, vec![book_of(set, 1), sheet]));
+    }
+    requests
+}
+
+fn joins(a_set: &[Transition], b_set: &[Transition]) -> Vec<Request> {
+    let sheet_of = |set: &[Transition]| sheet_of_set(N as u32, set).words();
+    let (a_sheet, b_sheet) = (sheet_of(a_set), sheet_of(b_set));
+    let need = sheet_of_join(N as u32, &a_sheet, &b_sheet).len();
+    let counts = [a_set.len(), a_sheet.len(), b_set.len(), b_sheet.len()].map(|count| count as u64);
+    let join = |book_room: usize, sheet_room: usize| {
+        let a = [book_of(a_set, 0), widened(&a_sheet)];
+        let b = [book_of(b_set, 0), widened(&b_sheet)];
+        let out = [rubbish(book_room), rubbish(sheet_room)];
+        made(JOIN, [&[N], &counts[..]].concat(), [a, b, out].concat())
+    };
+    let books = a_set.len() + b_set.len();
+    vec![join(books, need), join(books, need - 1), join(books - 1, need), join(books + 5, need + 5)]
+}
+
+fn applied_and_written(set: &[Transition]) -> Vec<Request> {
+    let sheet = sheet_of_set(N as u32, set).words();
+    let (words, count) = (widened(&sheet), sheet.len() as u64);
+    let length = sheet_text(N as u32, &sheet).len();
+    let apply = |state: u64| made(APPLY, vec![N, state, count], vec![words.clone()]);
+    let write = |room: usize| made(WRITE, vec![N, count], vec![words.clone(), rubbish(room)]);
+    let states = [0, 1, 511, 682, 1_023, 1_024];
+    [states.map(apply).to_vec(), vec![write(length), write(length - 1), write(length + 40)]]
+        .concat()
+}
+
+/// All states of a ring of ten cells under an elementary rule, in increasing order.
+fn elementary(rule: u64) -> Request {
+    let next = |state: u64| -> u64 {
+        let cell = |place: u64| state >> (place % N) & 1;
+        let on = |place: &u64| {
+            let neighbours = cell(place + N - 1) << 2 | cell(*place) << 1 | cell(place + 1);
+            rule >> neighbours & 1 == 1
+        };
+        (0..N).filter(on).map(|place| 1 << place).sum()
+    };
+    let words = (0..1 << N).map(|state| state * 1_024 + next(state)).collect();
+    made(LEARN, vec![N], vec![words, rubbish(1_024), rubbish(4_096)])
+}
+
+/// Slices of 65,536 elements; and rows that stand for 1,024 states.
+fn longest() -> Vec<Request> {
+    let most = MOST_ELEMENTS as usize;
+    let row = b"---------- 1010101010\n";
+    let text = [&b".i 10\n.o 10\n"[..], row, row, b".e\n"].concat();
+    let bytes: Vec<u64> = text.iter().map(|byte| u64::from(*byte)).collect();
+    let comment: Vec<u64> = vec![u64::from(b'#'); most];
+    vec![
+        made(FRESH, vec![N], vec![rubbish(most)]),
+        made(LEARN, vec![N], vec![vec![0; most], rubbish(most), rubbish(most)]),
+        made(READ, vec![], vec![bytes.clone(), rubbish(2_048)]),
+        made(READ, vec![], vec![bytes, rubbish(2_047)]),
+        made(READ, vec![], vec![comment, rubbish(most)]),
+        made(WRITE, vec![N, 0], vec![rubbish(most), rubbish(most)]),
+    ]
+}
