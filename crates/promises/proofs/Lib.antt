@@ -1,1 +1,2 @@
 pub mod Learning
+pub mod TextToText

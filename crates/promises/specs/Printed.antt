@@ -98,8 +98,8 @@ pub record RefusalPrinted (t out out′ : List ℕ) (r : ℕ) : Type 0 where
   pub prints : Prints out out′ r (refusalLine code place)
 
 pub data Printed (t out out′ : List ℕ) (r : ℕ) : Type 0 where
-  sheet : SheetPrinted t out out′ r → Printed t out out′ r
-  refusal : RefusalPrinted t out out′ r → Printed t out out′ r
+  a-sheet : SheetPrinted t out out′ r → Printed t out out′ r
+  a-refusal : RefusalPrinted t out out′ r → Printed t out out′ r
 
 -- the slices that the program lends: 1,024 words for the list, the book and the sheet, and 24,576 bytes or more for the output
 pub record Rooms (list book sheet out : List ℕ) : Type 0 where
