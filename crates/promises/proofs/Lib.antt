@@ -1,2 +1,3 @@
 pub mod Learning
 pub mod TextToText
+pub mod Once

@@ -34,6 +34,11 @@ pub record Learnable (n : ℕ) (ts : List ℕ) : Type 0 where
   pub one-next : OneNext ts
   pub fits : (ps rest : List ℕ) → ts ≡ ps ++ rest → length (sheetOf n ps) ≤ 1024
 
+-- the rows of two texts stand for the same transitions, in any order, with repeats, comments and dashes
+pub record SameRows (t u : List ℕ) : Type 0 where
+  pub there : (w : ℕ) → Mem w (textWords t) → Mem w (textWords u)
+  pub back : (w : ℕ) → Mem w (textWords u) → Mem w (textWords t)
+
 -- ---- refusals
 
 -- the words ps stand before word number k of ts, which is w
@@ -97,6 +102,7 @@ pub record RefusalPrinted (t out out′ : List ℕ) (r : ℕ) : Type 0 where
   pub refused : Refused t code place
   pub prints : Prints out out′ r (refusalLine code place)
 
+-- the one or the other
 pub data Printed (t out out′ : List ℕ) (r : ℕ) : Type 0 where
   a-sheet : SheetPrinted t out out′ r → Printed t out out′ r
   a-refusal : RefusalPrinted t out out′ r → Printed t out out′ r
