@@ -1,3 +1,4 @@
 pub mod Learning
 pub mod TextToText
-pub mod Once
+pub mod OneText
+pub mod Exactly
