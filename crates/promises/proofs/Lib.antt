@@ -2,3 +2,4 @@ pub mod Learning
 pub mod TextToText
 pub mod OneText
 pub mod Exactly
+pub mod OneResult
