@@ -23,7 +23,7 @@ use Rattle.learning.specs.Learn.{Run, going, refused, choose, taken, learnStep,
 use Rattle.writing.proofs.WriteLaws.{size-small}
 use Rattle.program.proofs.LearnLaws.{Writable, learn-writable}
 use Rattle.handover.proofs.Runs.{Read, After, read-booked, run-read}
-use Rattle.promises.specs.Printed.{OneNext, Learnable, Before, Contradicted, TooLarge}
+use Rattle.promises.specs.Printed.{Learnable, Contradicted, TooLarge}
 
 -- 0 while learning goes on, 1 after a refusal
 stopped : Run → ℕ

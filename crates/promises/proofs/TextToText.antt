@@ -2,17 +2,16 @@
 use mathlib.Core.Path.{_≡_, refl, sym, ap, _∙_, subst}
 use mathlib.Core.Logic.{inl, inr}
 use mathlib.Core.Bool.{Bool, true, false, cond}
-use mathlib.Core.List.{List, [], _∷_, _++_, List·Memᴰ as Mem}
+use mathlib.Core.List.{List, [], List·Memᴰ as Mem}
 use Prim.Native.Nat.{ℕ, _+_, _-_, _≤_, _<_}
 use native.Mathlib.Omega.{arith}
-use lib.Dec.{leb, ltb}
+use lib.Dec.{leb}
 use lib.ListN.{length, take, drop, replicate}
 use lib.Seq.{take-at, drop-at}
 use borrow.Author.Tests.{leb-true, leb-false, ltb-true, ltb-false}
-use Rattle.table.specs.Lists.{all, increasing}
+use Rattle.table.specs.Lists.{increasing}
 use Rattle.table.specs.Surgery.{filled}
 use Rattle.answers.specs.Answers.{refuse, done}
-use Rattle.answers.specs.declared.Answer.{Answer}
 use Rattle.lines.specs.declared.Kind.the-variants.{Recording}
 use Rattle.headers.specs.Verdicts.{judgeOf}
 use Rattle.headers.specs.declared.Verdict.{Verdict}
@@ -20,20 +19,19 @@ use Rattle.headers.specs.declared.Verdict.the-variants.{Good, Bad}
 use Rattle.headers.proofs.PlaceLaws.{bad-iff-place}
 use Rattle.recording.specs.Rows.{textWords}
 use Rattle.recording.specs.Reading.{refusal, answerFor, listFor, readAnswer, readList}
-use Rattle.recording.specs.declared.ReadAnswer.{ReadAnswer}
 use Rattle.recording.proofs.WordLaws.{read-size, read-valid}
 use Rattle.learning.specs.Learn.{Run, going, refused, learnRun, runAnswer, runBook, runSheet}
 use Rattle.learning.specs.Running.{runIf}
 use Rattle.writing.specs.SheetText.{sheetText}
 use Rattle.writing.specs.Writing.{written}
-use Rattle.program.specs.Program.{refusalLine, ifRoom, tooLong, entryCode, entryPlace, learnedRun, writtenRun, runText, printed, Runs}
+use Rattle.program.specs.Program.{refusalLine, ifRoom, tooLong, entryCode, entryPlace, learnedRun, runText, printed, Runs}
 use Rattle.program.proofs.LearnLaws.{learn-writable}
 use Rattle.program.proofs.Promises.{never-12}
 use Rattle.program.proofs.AnswerLaws.{run-answers}
-use Rattle.handover.specs.Demands.{Outcome, sheetUsed, Prime, Complete}
+use Rattle.handover.specs.Demands.{Outcome, sheetUsed, Complete}
 use Rattle.handover.proofs.Demands.{learn-complete}
-use Rattle.promises.specs.Printed.{Recorded, Learnable, Refused, too-long, faulty, too-many, contradicted, too-large, Prints, SheetPrinted, RefusalPrinted, Printed, a-sheet, a-refusal, Rooms}
-use Rattle.promises.proofs.Learning.{Stops, Ended, learn-ended}
+use Rattle.promises.specs.Printed.{Recorded, Learnable, Refused, too-long, faulty, too-many, contradicted, too-large, Prints, Printed, a-sheet, a-refusal, Rooms}
+use Rattle.promises.proofs.Learning.{Ended, learn-ended}
 
 -- ---- the bytes
 
