@@ -1,0 +1,5 @@
+pub mod Learning
+pub mod TextToText
+pub mod OneText
+pub mod Exactly
+pub mod OneResult

@@ -1,0 +1,54 @@
+-- One set of transitions has one printed sheet, byte for byte, and back.
+use mathlib.Core.Path.{_≡_, sym, ap, _∙_, subst}
+use mathlib.Core.List.{List, List·Memᴰ as Mem}
+use Prim.Native.Nat.{ℕ}
+use lib.ListN.{length, take}
+use Rattle.table.proofs.Basics.{all-i}
+use Rattle.table.proofs.Increasing.{increasing-unique}
+use Rattle.panel.specs.Rules.{head, validRule}
+use Rattle.prime.proofs.Apply.{negative-e, negative-i}
+use Rattle.writing.specs.SheetText.{sheetText}
+use Rattle.writing.proofs.OneText.{text-unique}
+use Rattle.handover.specs.Demands.{Consistent, Prime}
+use Rattle.promises.specs.Printed.{SameRows, SheetPrinted}
+
+module _ (ts us : List ℕ) (f : (t : ℕ) → Mem t ts → Mem t us) (g : (t : ℕ) → Mem t us → Mem t ts) where
+  consistent-same : (w : ℕ) → Consistent ts w → Consistent us w
+  consistent-same w h i e c = let k = negative-e us (head w) i e in h i (negative-i ts (head w) i (k .0) (g (k .0) (k .1)) (k .2) (k .3)) c
+
+  consistent-back : (w : ℕ) → Consistent us w → Consistent ts w
+  consistent-back w h i e c = let k = negative-e ts (head w) i e in h i (negative-i us (head w) i (k .0) (f (k .0) (k .1)) (k .2) (k .3)) c
+
+  prime-same : (n w : ℕ) → Prime n ts w → Prime n us w
+  prime-same n w p = record {
+    is-rule = p .is-rule;
+    is-consistent = consistent-same w (p .is-consistent);
+    no-other = λ r v e c k. p .no-other r v e c (consistent-back r k);
+  }
+
+-- two texts of one panel size whose rows stand for the same transitions, both answered with a sheet: the same bytes are printed
+pub one-text : {t u out out₁ o o₁ : List ℕ} {r r₁ : ℕ} (p : SheetPrinted t out o r) (q : SheetPrinted u out₁ o₁ r₁) → p .n ≡ q .n → SameRows t u → (r ≡ r₁) × (take r o ≡ take r₁ o₁)
+one-text p q e f = (p .prints .long ∙ ap length texts ∙ sym (q .prints .long), p .prints .text ∙ texts ∙ sym (q .prints .text))
+  where
+    to : (w : ℕ) → Mem w (p .ts) → Mem w (q .ts)
+    to w m = subst (λ (z : List ℕ). Mem w z) (sym (q .recorded .words)) (f .there w (subst (λ (z : List ℕ). Mem w z) (p .recorded .words) m))
+
+    from : (w : ℕ) → Mem w (q .ts) → Mem w (p .ts)
+    from w m = subst (λ (z : List ℕ). Mem w z) (sym (p .recorded .words)) (f .back w (subst (λ (z : List ℕ). Mem w z) (q .recorded .words) m))
+
+    sheets : p .s ≡ q .s
+    sheets =
+        increasing-unique (p .s) (q .s) (p .rising) (q .rising)
+        (λ w m. q .all-prime w (prime-same (p .ts) (q .ts) to from (q .n) w (subst (λ (k : ℕ). Prime k (p .ts) w) e (p .only-prime w m))))
+        (λ w m. p .all-prime w (prime-same (q .ts) (p .ts) from to (p .n) w (subst (λ (k : ℕ). Prime k (q .ts) w) (sym e) (q .only-prime w m))))
+
+    texts : sheetText (p .n) (p .s) ≡ sheetText (q .n) (q .s)
+    texts = ap (λ (k : ℕ). sheetText k (p .s)) e ∙ ap (sheetText (q .n)) sheets
+
+-- and back: the bytes of a printed sheet tell the panel size and the sheet
+pub one-sheet : {t u out out₁ o o₁ : List ℕ} {r r₁ : ℕ} (p : SheetPrinted t out o r) (q : SheetPrinted u out₁ o₁ r₁) → take r o ≡ take r₁ o₁ → (p .n ≡ q .n) × (p .s ≡ q .s)
+one-sheet p q e =
+    text-unique (p .n) (q .n) (p .s) (q .s)
+    (all-i (validRule (p .n)) (p .s) (λ w m. p .only-prime w m .is-rule))
+    (all-i (validRule (q .n)) (q .s) (λ w m. q .only-prime w m .is-rule))
+    (sym (p .prints .text) ∙ e ∙ q .prints .text)

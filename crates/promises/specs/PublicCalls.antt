@@ -1,0 +1,64 @@
+-- The public calls, all of them: with what each is called, what it gives (its answer and every slice or record lent to be changed), and its contract.
+use mathlib.Core.Path.{_≡_}
+use mathlib.Core.Bool.{false}
+use mathlib.Core.List.{List}
+use Prim.Native.Nat.{ℕ}
+use lib.ListN.{length}
+use Rattle.answers.specs.declared.Answer.{Answer}
+use Rattle.calls.specs.Fresh.{Fresh}
+use Rattle.calls.specs.Take.{Taken}
+use Rattle.calls.specs.Apply.{applyAnswer}
+use Rattle.calls.specs.declared.Applied.{Applied}
+use Rattle.learning.specs.Learn.{Learned}
+use Rattle.joining.specs.Joining.{Piece, Joined}
+use Rattle.sessions.specs.Sessions.{Starts, Takes}
+use Rattle.sessions.specs.declared.Session.{Session}
+use Rattle.sessions.specs.declared.Outcome.{Outcome}
+use Rattle.lent.specs.Lent.{TakesLent}
+use Rattle.recording.specs.Reading.{Reads}
+use Rattle.recording.specs.declared.ReadAnswer.{ReadAnswer}
+use Rattle.writing.specs.Writing.{Writes}
+use Rattle.writing.specs.declared.WriteAnswer.{WriteAnswer}
+use Rattle.program.specs.Program.{Runs}
+
+-- a call with its inputs, the lent slices as they are before it
+pub data Call : Type 0 where
+  fresh : (n : ℕ) (sheet : List ℕ) → Call
+  take : (n : ℕ) (book : List ℕ) (books : ℕ) (sheet : List ℕ) (sheets i j : ℕ) → Call
+  learn : (n : ℕ) (words book sheet : List ℕ) → Call
+  join : (n : ℕ) (a b : Piece) (book sheet : List ℕ) → Call
+  apply : (n : ℕ) (sheet : List ℕ) (sheets x : ℕ) → Call
+  session-start : (n : ℕ) (sheet : List ℕ) → Call
+  session-take : (s : Session) (book sheet : List ℕ) (i j : ℕ) → Call
+  lent-take : (s : Session) (book sheet : List ℕ) (i j : ℕ) → Call
+  read : (text list : List ℕ) → Call
+  write-sheet : (n : ℕ) (sheet : List ℕ) (count : ℕ) (out : List ℕ) → Call
+  run : (input list book sheet output : List ℕ) → Call
+
+-- what it gives: the answer first, then what is left in each slice or record
+abbrev pub Result : Call → Type 0
+Result (fresh n sheet) = Answer × List ℕ
+Result (take n book books sheet sheets i j) = Answer × List ℕ × List ℕ
+Result (learn n words book sheet) = Answer × List ℕ × List ℕ
+Result (join n a b book sheet) = Answer × List ℕ × List ℕ
+Result (apply n sheet sheets x) = Applied
+Result (session-start n sheet) = Outcome × List ℕ
+Result (session-take s book sheet i j) = Outcome × List ℕ × List ℕ
+Result (lent-take s book sheet i j) = Answer × Session × List ℕ × List ℕ
+Result (read text list) = ReadAnswer × List ℕ
+Result (write-sheet n sheet count out) = WriteAnswer × List ℕ
+Result (run input list book sheet output) = ℕ × List ℕ × List ℕ × List ℕ × List ℕ
+
+-- what the function of src/ ensures
+abbrev pub Contract : (c : Call) → Result c → Type 0
+Contract (fresh n sheet) r = Fresh n sheet (r .1) (r .0)
+Contract (take n book books sheet sheets i j) r = Taken false n book books sheet sheets i j (r .1) (r .2) (r .0)
+Contract (learn n words book sheet) r = Learned n words (length book) (length sheet) (r .1) (r .2) (r .0)
+Contract (join n a b book sheet) r = Joined n a b book sheet (r .0) (r .1) (r .2)
+Contract (apply n sheet sheets x) r = r ≡ applyAnswer n sheet sheets x
+Contract (session-start n sheet) r = Starts n sheet (r .1) (r .0)
+Contract (session-take s book sheet i j) r = Takes s book sheet i j (r .1) (r .2) (r .0)
+Contract (lent-take s book sheet i j) r = TakesLent s book sheet i j (r .1) (r .2) (r .3) (r .0)
+Contract (read text list) r = Reads text list (r .1) (r .0)
+Contract (write-sheet n sheet count out) r = Writes n sheet count out (r .1) (r .0)
+Contract (run input list book sheet output) r = Runs input list book sheet output (r .1) (r .2) (r .3) (r .4) (r .0)

@@ -1,0 +1,1 @@
+// What the program comes to from text to text, stated over its contract alone: no code, only theorems (specs/ and proofs/).
