@@ -1,0 +1,249 @@
+// The calls under C's names: each makes the inner call, stores the numbers of its answer, and returns the code.
+use answers::Answer;
+use recording::ReadAnswer;
+use sessions::Session;
+ghost use mathlib.Core.Path.{_≡_};
+ghost use mathlib.Core.Bool.{false};
+ghost use mathlib.Core.List.{_∷_, []};
+ghost use lib.ListN.{length};
+ghost use Rattle.calls.specs.Fresh.{Fresh};
+ghost use Rattle.calls.specs.Take.{Taken};
+ghost use Rattle.calls.specs.Apply.{applyAnswer};
+ghost use Rattle.learning.specs.Learn.{Learned};
+ghost use Rattle.joining.specs.Joining.{piece};
+ghost use Rattle.recording.specs.Reading.{Reads};
+ghost use Rattle.writing.specs.Writing.{Writes};
+ghost use Rattle.program.specs.Program.{Runs};
+ghost use Rattle.exports.specs.Numbers.{numbers, numbersWith, appliedNumbers, readNumbers, narrowed, sessionIn, sessionNumbers, Hands, HandsJoined, HandsStarted, HandsTaken, HandsRead, HandsWritten};
+
+fn wide(x: u32) -> usize
+    ensures { λ r. ⌜ r ≡ x ⌝ }
+{
+    x as usize
+}
+
+fn narrow(x: usize) -> u32
+    ensures { λ r. ⌜ r ≡ narrowed x ⌝ }
+{
+    if x <= 4294967295 {
+        return x as u32;
+    }
+    4294967295
+}
+
+// The six numbers of an answer.
+fn put_answer(a: Answer, out: &mut [usize; 6]) -> u32
+    ensures { λ r. ⌜ (now (out .exit) ≡ numbers a) × (r ≡ a .code) ⌝ }
+{
+    let code = a.code;
+    *out = [
+        wide(code),
+        a.place,
+        a.book_count,
+        a.sheet_count,
+        a.struck,
+        a.added,
+    ];
+    code
+}
+
+// The six numbers of an answer, and one more.
+fn put_with(a: Answer, more: usize, out: &mut [usize; 7]) -> u32
+    ensures { λ r. ⌜ (now (out .exit) ≡ numbersWith a (more ∷ [])) × (r ≡ a .code) ⌝ }
+{
+    let code = a.code;
+    *out = [
+        wide(code),
+        a.place,
+        a.book_count,
+        a.sheet_count,
+        a.struck,
+        a.added,
+        more,
+    ];
+    code
+}
+
+// The four numbers of reading.
+fn put_read(a: ReadAnswer, out: &mut [usize; 4]) -> u32
+    ensures { λ r. ⌜ (now (out .exit) ≡ readNumbers a) × (r ≡ a .code) ⌝ }
+{
+    let code = a.code;
+    *out = [wide(code), a.place, wide(a.n), a.count];
+    code
+}
+
+// The five numbers of a session, the first as given.
+fn put_session(first: usize, s: Session, out: &mut [usize; 5])
+    ensures { λ _. ⌜ now (out .exit) ≡ sessionNumbers first s ⌝ }
+{
+    *out = [first, s.book_count, s.sheet_count, s.struck, s.added];
+}
+
+// The session that stands in five numbers.
+fn session_in(x: &[usize; 5]) -> Session
+    ensures { λ r. ⌜ r ≡ sessionIn (now (x .entry)) ⌝ }
+{
+    Session {
+        n: narrow(x[0]),
+        book_count: x[1],
+        sheet_count: x[2],
+        struck: x[3],
+        added: x[4],
+    }
+}
+
+#[no_mangle]
+pub extern "C" fn ntekuzino_fresh(n: u32, sheet: &mut [u32], answer: &mut [usize; 6]) -> u32
+    ensures { λ r. ⌜ Hands (Fresh n (now (sheet .entry)) (now (sheet .exit))) (now (answer .exit)) r ⌝ }
+{
+    let a = calls::fresh(n, sheet);
+    put_answer(a, answer)
+}
+
+#[no_mangle]
+pub extern "C" fn ntekuzino_take(
+    n: u32,
+    i: u32,
+    j: u32,
+    book: &mut [u32],
+    book_count: usize,
+    sheet: &mut [u32],
+    sheet_count: usize,
+    answer: &mut [usize; 6],
+) -> u32
+    ensures { λ r. ⌜ Hands (Taken false n (now (book .entry)) «book_count» (now (sheet .entry)) «sheet_count» i j (now (book .exit)) (now (sheet .exit))) (now (answer .exit)) r ⌝ }
+{
+    let a = calls::take(n, i, j, book, book_count, sheet, sheet_count);
+    put_answer(a, answer)
+}
+
+#[no_mangle]
+pub extern "C" fn ntekuzino_learn(
+    n: u32,
+    words: &[u32],
+    book: &mut [u32],
+    sheet: &mut [u32],
+    answer: &mut [usize; 6],
+) -> u32
+    ensures { λ r. ⌜ Hands (Learned n (now (words .entry)) (length (now (book .entry))) (length (now (sheet .entry))) (now (book .exit)) (now (sheet .exit))) (now (answer .exit)) r ⌝ }
+{
+    let a = learning::learn(n, words, book, sheet);
+    put_answer(a, answer)
+}
+
+#[no_mangle]
+pub extern "C" fn ntekuzino_join(
+    n: u32,
+    a_book: &[u32],
+    a_book_count: usize,
+    a_sheet: &[u32],
+    a_sheet_count: usize,
+    b_book: &[u32],
+    b_book_count: usize,
+    b_sheet: &[u32],
+    b_sheet_count: usize,
+    book: &mut [u32],
+    sheet: &mut [u32],
+    answer: &mut [usize; 6],
+) -> u32
+    ensures { λ r. ⌜ HandsJoined n (piece (now («a_book» .entry)) «a_book_count» (now («a_sheet» .entry)) «a_sheet_count») (piece (now («b_book» .entry)) «b_book_count» (now («b_sheet» .entry)) «b_sheet_count») (now (book .entry)) (now (sheet .entry)) (now (book .exit)) (now (sheet .exit)) (now (answer .exit)) r ⌝ }
+{
+    let a = joining::join(
+        n,
+        a_book,
+        a_book_count,
+        a_sheet,
+        a_sheet_count,
+        b_book,
+        b_book_count,
+        b_sheet,
+        b_sheet_count,
+        book,
+        sheet,
+    );
+    put_answer(a, answer)
+}
+
+#[no_mangle]
+pub extern "C" fn ntekuzino_apply(
+    n: u32,
+    sheet: &[u32],
+    sheet_count: usize,
+    x: u32,
+    answer: &mut [usize; 7],
+) -> u32
+    ensures { λ r. ⌜ (now (answer .exit) ≡ appliedNumbers (applyAnswer n (now (sheet .entry)) «sheet_count» x)) × (r ≡ applyAnswer n (now (sheet .entry)) «sheet_count» x .answer .code) ⌝ }
+{
+    let a = calls::apply(n, sheet, sheet_count, x);
+    put_with(a.answer, wide(a.state), answer)
+}
+
+#[no_mangle]
+pub extern "C" fn ntekuzino_session_start(
+    n: u32,
+    sheet: &mut [u32],
+    session: &mut [usize; 5],
+    answer: &mut [usize; 6],
+) -> u32
+    ensures { λ r. ⌜ HandsStarted n (now (sheet .entry)) (now (sheet .exit)) (now (session .exit)) (now (answer .exit)) r ⌝ }
+{
+    let o = Session::start(n, sheet);
+    let s = o.session;
+    put_session(wide(s.n), s, session);
+    put_answer(o.answer, answer)
+}
+
+#[no_mangle]
+pub extern "C" fn ntekuzino_session_take(
+    session: &mut [usize; 5],
+    book: &mut [u32],
+    sheet: &mut [u32],
+    i: u32,
+    j: u32,
+    answer: &mut [usize; 6],
+) -> u32
+    ensures { λ r. ⌜ HandsTaken (now (session .entry)) (now (book .entry)) (now (sheet .entry)) i j (now (session .exit)) (now (book .exit)) (now (sheet .exit)) (now (answer .exit)) r ⌝ }
+{
+    let first = session[0];
+    let s = session_in(session);
+    let o = s.take(book, sheet, i, j);
+    put_session(first, o.session, session);
+    put_answer(o.answer, answer)
+}
+
+#[no_mangle]
+pub extern "C" fn ntekuzino_read(text: &[u8], list: &mut [u32], answer: &mut [usize; 4]) -> u32
+    ensures { λ r. ⌜ HandsRead (Reads (now (text .entry)) (now (list .entry)) (now (list .exit))) (now (answer .exit)) r ⌝ }
+{
+    let a = recording::read(text, list);
+    put_read(a, answer)
+}
+
+#[no_mangle]
+pub extern "C" fn ntekuzino_write_sheet(
+    n: u32,
+    sheet: &[u32],
+    sheet_count: usize,
+    out: &mut [u8],
+    answer: &mut [usize; 7],
+) -> u32
+    ensures { λ r. ⌜ HandsWritten (Writes n (now (sheet .entry)) «sheet_count» (now (out .entry)) (now (out .exit))) (now (answer .exit)) r ⌝ }
+{
+    let a = writing::write_sheet(n, sheet, sheet_count, out);
+    put_with(a.answer, a.length, answer)
+}
+
+// The whole program: the length of what stands in `output`.
+#[no_mangle]
+pub extern "C" fn ntekuzino_run(
+    input: &[u8],
+    list: &mut [u32],
+    book: &mut [u32],
+    sheet: &mut [u32],
+    output: &mut [u8],
+) -> usize
+    ensures { λ r. ⌜ Runs (now (input .entry)) (now (list .entry)) (now (book .entry)) (now (sheet .entry)) (now (output .entry)) (now (list .exit)) (now (book .exit)) (now (sheet .exit)) (now (output .exit)) r ⌝ }
+{
+    program::run(input, list, book, sheet, output)
+}
