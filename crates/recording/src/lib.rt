@@ -46,7 +46,7 @@ fn expand(list: &mut [u32], from: usize, m: Masks) -> Filled
     let width = m.width;
     let next = m.next;
     let off = m.off;
-    // No state below the on-mask matches, and none that has a bit of the off-mask.
+    // A matching state has every bit of the on-mask and none of the off-mask, so it lies from the one to below the end.
     let end = panel::power(width) - off;
     let mut at = from;
     let mut i: u32 = m.on;
