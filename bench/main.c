@@ -181,7 +181,7 @@ int main(int argc, char **argv) {
     measure("learn", "rule 110, 1,024 rows in order", from.answer[3], learn);
     halves("rule 110, two halves", join);
     write_recording();
-    measure("read", "rule 110, 22,559 bytes", from.answer[3], read);
+    measure("read", "rule 110, 1,024 rows as text", from.answer[3], read);
 
     random_rows(11);
     learn_piece(&from, words, rows);

@@ -20,10 +20,10 @@
 #include <stddef.h>
 #include <stdint.h>
 
-_Static_assert(sizeof(size_t) == 8, "the library is compiled for 64 bits");
-
 #ifdef __cplusplus
 extern "C" {
+#else
+_Static_assert(sizeof(size_t) == 8, "the library is compiled for 64 bits");
 #endif
 
 /* The codes. A code is given exactly when no earlier check applies; the order is that of the numbers, except that take

@@ -1,6 +1,6 @@
 -- Laws of the words of a row.
-use Prim.Native.Nat.{ℕ, zero, suc, _+_, _-_, _^_, _≤_}
-use mathlib.Core.Path.{_≡_, sym, _∙_, ap}
+use Prim.Native.Nat.{ℕ, zero, suc, _+_, _-_, _^_, _≤_, _<_}
+use mathlib.Core.Path.{_≡_, refl, sym, _∙_, ap}
 use mathlib.Core.List.{[], _∷_, _++_, append-nil}
 use mathlib.Core.Bool.{Bool, true, false, cond, _&&_}
 use native.Mathlib.Omega.{arith}
@@ -11,8 +11,10 @@ use lib.Dec.{eqb, lit<}
 use lib.ListN.{length, length-append}
 use borrow.Author.Tests.{eq-eqb, ne-eqb}
 use Rattle.lines.specs.declared.Masks.{Masks}
+use Rattle.table.proofs.Basics.{and-l, and-r}
 use Rattle.panel.specs.Transitions.{transitionWord}
-use Rattle.panel.proofs.Masks.{within, apart, allOn-within, allOff-apart}
+use Rattle.panel.specs.Masks.{allOn, allOff}
+use Rattle.panel.proofs.Masks.{within, apart, allOn-within, allOff-apart, within-le, on-within, on-not, apart-on}
 use Rattle.lines.specs.Bounds.{RowOk}
 use Rattle.recording.specs.Rows.{matchesOf, wordsBelow}
 
@@ -55,3 +57,51 @@ words-grow m i (suc d) = rw suc-add (step (words-grow m i d))
 
 pub words-mono : (m : Masks) (i j : ℕ) → i ≤ j → length (wordsBelow m i) ≤ length (wordsBelow m j)
 words-mono m i j h = rw (sub-add-cancel h) at (words-grow m i (j - i))
+
+-- ---- states that cannot match
+
+module _ (m : Masks) (h : RowOk m) where
+  masks-small : (m .on < 1024) × (m .off < 1024)
+  masks-small = let k = power-few (m .width) (h .few) in (omega (arith, h .on-small), omega (arith, h .off-small))
+
+  on-in : (i : ℕ) → matchesOf m i ≡ true → within (m .on) i ≡ true
+  unfolding matchesOf
+  on-in i e = sym (allOn-within (m .on) i (masks-small .0)) ∙ and-l (allOn (m .on) i) (allOff (m .off) i) e
+
+  off-out : (i : ℕ) → matchesOf m i ≡ true → apart (m .off) i ≡ true
+  unfolding matchesOf
+  off-out i e = sym (allOff-apart (m .off) i (masks-small .1)) ∙ and-r (allOn (m .on) i) (allOff (m .off) i) e
+
+  -- a state below the on-mask does not match
+  early-out : (i : ℕ) → i < m .on → matchesOf m i ≡ false
+  early-out i l = go (matchesOf m i) refl
+    where
+      go : (t : Bool) → matchesOf m i ≡ t → matchesOf m i ≡ false
+      go true e = absurd (omega (arith, within-le (m .on) i (on-in i e)))
+      go false e = e
+
+  -- nor does one that is larger than the state with every bit but those of the off-mask
+  late-out : (i : ℕ) → i < 2 ^ (m .width) → 2 ^ (m .width) - m .off ≤ i → matchesOf m i ≡ false
+  late-out i l g = go (matchesOf m i) refl
+    where
+      rest : apart (m .off) i ≡ true → within i (2 ^ (m .width) - 1 - m .off) ≡ true
+      rest a = on-within (m .width) i (2 ^ (m .width) - 1 - m .off) l (λ v b o. on-not (m .width) (m .off) v (h .off-small) b (λ x. apart-on (m .off) i v a x o))
+
+      go : (t : Bool) → matchesOf m i ≡ t → matchesOf m i ≡ false
+      go true e = absurd (omega (arith, within-le i (2 ^ (m .width) - 1 - m .off) (rest (off-out i e)), h .off-small))
+      go false e = e
+
+  -- so the words below the on-mask are none
+  pub words-none : (i : ℕ) → i ≤ m .on → wordsBelow m i ≡ []
+  unfolding wordsBelow
+  words-none zero l = refl
+  words-none (suc i) l = rw (early-out i (omega arith), append-nil) (words-none i (omega arith))
+
+  words-still : (d i : ℕ) → 2 ^ (m .width) - m .off ≤ i → d + i ≤ 2 ^ (m .width) → wordsBelow m (d + i) ≡ wordsBelow m i
+  unfolding wordsBelow
+  words-still zero i g l = rw zero-add refl
+  words-still (suc d) i g l = rw (suc-add, late-out (d + i) (omega (arith, rw suc-add at l)) (omega arith), append-nil) (words-still d i g (omega (arith, rw suc-add at l)))
+
+  -- and from there on none are added
+  pub words-all : (i : ℕ) → 2 ^ (m .width) - m .off ≤ i → i ≤ 2 ^ (m .width) → wordsBelow m (2 ^ (m .width)) ≡ wordsBelow m i
+  words-all i g l = rw (sub-add-cancel l) at (words-still (2 ^ (m .width) - i) i g (omega (arith, sub-add-cancel l)))

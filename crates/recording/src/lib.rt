@@ -45,10 +45,12 @@ fn expand(list: &mut [u32], from: usize, m: Masks) -> Filled
 {
     let width = m.width;
     let next = m.next;
-    let n = panel::power(width);
+    let off = m.off;
+    // A matching state has every bit of the on-mask and none of the off-mask, so it lies from the one to below the end.
+    let end = panel::power(width) - off;
     let mut at = from;
-    let mut i: u32 = 0;
-    while i < n {
+    let mut i: u32 = m.on;
+    while i < end {
         if matches(m, i) {
             if list.len() <= at {
                 return Filled::Full;

@@ -1,7 +1,7 @@
--- `recording::expand` meets its contract.
+-- `recording::expand` meets its contract: the states below the on-mask, and those from the end on, add no word.
 use Prim.Native.Nat.{ℕ, _+_, _-_, _^_, _≤_, _<_}
 use Rattle.recording.proofs.FillLaws.{filled-full, filled-to, put-word}
-use Rattle.recording.proofs.RowLaws.{words-in, words-out, words-mono}
+use Rattle.recording.proofs.RowLaws.{words-in, words-out, words-mono, words-none, words-all}
 use Rattle.recording.specs.Rows.{matchesOf, wordsBelow}
 use borrow.Author.Needs.{needs}
 use denote.Ref.{now}
@@ -14,17 +14,22 @@ use Rattle.recording.proofs.expand.Statement.{statement}
 use Rattle.recording.proofs.expand.Tie as tie
 
 abbrev Inv-loop : tie.InvT-loop
-Inv-loop list₀ from m width next n at₀ i₀ list at i = (i ≤ n) × (length list ≡ length list₀) × (at ≡ from + length (wordsBelow m i)) × (at ≤ length list) × (take at list ≡ take from list₀ ++ wordsBelow m i)
+Inv-loop list₀ from m width next off end at₀ i₀ list at i = (i ≤ 2 ^ (m .width)) × (length list ≡ length list₀) × (at ≡ from + length (wordsBelow m i)) × (at ≤ length list) × (take at list ≡ take from list₀ ++ wordsBelow m i)
 
 abbrev μ-loop : tie.MeasureT-loop
-μ-loop list₀ from m width next n at₀ i₀ list at i = n - i
+μ-loop list₀ from m width next off end at₀ i₀ list at i = end - i
 
 power-requires : tie.Need-power-requires Inv-loop μ-loop
 power-requires c κs = c .before .pre .1 .few
 
+sub-end : tie.Need-sub-end Inv-loop μ-loop
+sub-end c = omega (arith, c .power .ensures, c .before .before .pre .1 .off-small)
+
 loop-holds : tie.Need-loop-holds Inv-loop μ-loop
-unfolding wordsBelow
-loop-holds c = (omega arith, refl, omega arith, c .before .before .pre .0, sym (append-nil _))
+loop-holds c = let p = c .before .before .pre in
+    let m = c .before .before .args .m in
+    let e = words-none m (p .1) (m .on) (omega arith) in
+    (omega (arith, p .1 .on-small), refl, rw e (omega arith), p .0, rw e (sym (append-nil _)))
 
 returns : tie.Need-returns Inv-loop μ-loop
 returns c = let l = c .before .before .before .before .loop in
@@ -66,8 +71,8 @@ returns-2 : tie.Need-returns-2 Inv-loop μ-loop
 returns-2 c = let l = c .before .loop in
     let m = c .before .before .before .before .args .m in
     let n = c .before .before .power in
-    let q : l .i ≡ 2 ^ (m .width) = omega arith in
-    (rw (← q, l .inv .2) (filled-to _ _ _ (omega arith)), λ h. rw (← q, ← l .inv .2) (l .inv .4))
+    let s = words-all m (c .before .before .before .before .pre .1) (l .i) (omega (arith, n .ensures)) (l .inv .0) in
+    (rw (s, l .inv .2) (filled-to _ _ _ (omega arith)), λ h. rw (s, ← l .inv .2) (l .inv .4))
 
 pub expand-spec : {M : Type 1} → statement M
 expand-spec =
@@ -76,6 +81,7 @@ expand-spec =
     Inv-loop
     μ-loop
     power-requires
+    sub-end
     loop-holds
     (λ c κs. search needs)
     (λ c. search needs)
