@@ -6,13 +6,13 @@ use crate::output::put_slice;
 use crate::output::put_word;
 use sessions::Session;
 
-pub fn fresh(n: u32, sheet: &mut [u32]) -> bool {
+pub(crate) fn fresh(n: u32, sheet: &mut [u32]) -> bool {
     let answer = calls::fresh(n, sheet);
     put_answer(answer);
     put_slice(sheet)
 }
 
-pub fn take(
+pub(crate) fn take(
     n: u32,
     i: u32,
     j: u32,
@@ -27,14 +27,14 @@ pub fn take(
     put_slice(sheet)
 }
 
-pub fn learn(n: u32, words: &[u32], book: &mut [u32], sheet: &mut [u32]) -> bool {
+pub(crate) fn learn(n: u32, words: &[u32], book: &mut [u32], sheet: &mut [u32]) -> bool {
     let answer = learning::learn(n, words, book, sheet);
     put_answer(answer);
     put_slice(book);
     put_slice(sheet)
 }
 
-pub fn join(
+pub(crate) fn join(
     n: u32,
     a_book: &[u32],
     a_books: usize,
@@ -65,20 +65,26 @@ pub fn join(
     put_slice(sheet)
 }
 
-pub fn apply(n: u32, sheet: &[u32], sheets: usize, x: u32) -> bool {
+pub(crate) fn apply(n: u32, sheet: &[u32], sheets: usize, x: u32) -> bool {
     let applied = calls::apply(n, sheet, sheets, x);
     put_answer(applied.answer);
     put_word(applied.state as usize)
 }
 
-pub fn start(n: u32, sheet: &mut [u32]) -> bool {
+pub(crate) fn start(n: u32, sheet: &mut [u32]) -> bool {
     let outcome = Session::start(n, sheet);
     put_answer(outcome.answer);
     put_session(outcome.session);
     put_slice(sheet)
 }
 
-pub fn session_take(session: Session, book: &mut [u32], sheet: &mut [u32], i: u32, j: u32) -> bool {
+pub(crate) fn session_take(
+    session: Session,
+    book: &mut [u32],
+    sheet: &mut [u32],
+    i: u32,
+    j: u32,
+) -> bool {
     let outcome = session.take(book, sheet, i, j);
     put_answer(outcome.answer);
     put_session(outcome.session);
@@ -86,7 +92,7 @@ pub fn session_take(session: Session, book: &mut [u32], sheet: &mut [u32], i: u3
     put_slice(sheet)
 }
 
-pub fn read(text: &[u8], list: &mut [u32]) -> bool {
+pub(crate) fn read(text: &[u8], list: &mut [u32]) -> bool {
     let answer = recording::read(text, list);
     put_word(answer.code as usize);
     put_word(answer.place);
@@ -95,7 +101,7 @@ pub fn read(text: &[u8], list: &mut [u32]) -> bool {
     put_slice(list)
 }
 
-pub fn run(
+pub(crate) fn run(
     text: &[u8],
     list: &mut [u32],
     book: &mut [u32],
@@ -112,7 +118,13 @@ pub fn run(
 }
 
 // The bytes written go out through a room for words.
-pub fn write(n: u32, sheet: &[u32], count: usize, out: &mut [u8], words: &mut [u32]) -> bool {
+pub(crate) fn write(
+    n: u32,
+    sheet: &[u32],
+    count: usize,
+    out: &mut [u8],
+    words: &mut [u32],
+) -> bool {
     let written = writing::write_sheet(n, sheet, count, out);
     put_answer(written.answer);
     put_word(written.length);

@@ -12,7 +12,7 @@ use crate::input::next_states;
 use crate::input::next_word;
 use sessions::Session;
 
-pub fn fresh(sheet: &mut [u32]) -> bool {
+pub(crate) fn fresh(sheet: &mut [u32]) -> bool {
     let Narrow::Is(n) = next_narrow() else {
         return false;
     };
@@ -23,7 +23,7 @@ pub fn fresh(sheet: &mut [u32]) -> bool {
     answering::fresh(n, &mut sheet[..s])
 }
 
-pub fn take(book: &mut [u32], sheet: &mut [u32]) -> bool {
+pub(crate) fn take(book: &mut [u32], sheet: &mut [u32]) -> bool {
     let Narrow::Is(n) = next_narrow() else {
         return false;
     };
@@ -44,7 +44,7 @@ pub fn take(book: &mut [u32], sheet: &mut [u32]) -> bool {
     answering::take(n, i, j, &mut book[..b], books, &mut sheet[..s], sheets)
 }
 
-pub fn learn(words: &mut [u32], book: &mut [u32], sheet: &mut [u32]) -> bool {
+pub(crate) fn learn(words: &mut [u32], book: &mut [u32], sheet: &mut [u32]) -> bool {
     let Narrow::Is(n) = next_narrow() else {
         return false;
     };
@@ -63,7 +63,7 @@ pub fn learn(words: &mut [u32], book: &mut [u32], sheet: &mut [u32]) -> bool {
     answering::learn(n, &words[..w], &mut book[..b], &mut sheet[..s])
 }
 
-pub fn join(
+pub(crate) fn join(
     a_book: &mut [u32],
     a_sheet: &mut [u32],
     b_book: &mut [u32],
@@ -149,7 +149,7 @@ fn join_to(
     )
 }
 
-pub fn apply(sheet: &mut [u32]) -> bool {
+pub(crate) fn apply(sheet: &mut [u32]) -> bool {
     let States::Are(n, x) = next_states() else {
         return false;
     };
@@ -163,7 +163,7 @@ pub fn apply(sheet: &mut [u32]) -> bool {
     answering::apply(n, &sheet[..s], sheets, x)
 }
 
-pub fn start(sheet: &mut [u32]) -> bool {
+pub(crate) fn start(sheet: &mut [u32]) -> bool {
     let Narrow::Is(n) = next_narrow() else {
         return false;
     };
@@ -174,7 +174,7 @@ pub fn start(sheet: &mut [u32]) -> bool {
     answering::start(n, &mut sheet[..s])
 }
 
-pub fn session_take(book: &mut [u32], sheet: &mut [u32]) -> bool {
+pub(crate) fn session_take(book: &mut [u32], sheet: &mut [u32]) -> bool {
     let Narrow::Is(n) = next_narrow() else {
         return false;
     };
@@ -206,7 +206,7 @@ pub fn session_take(book: &mut [u32], sheet: &mut [u32]) -> bool {
 }
 
 // Bytes come and go through a room for words.
-pub fn read(text: &mut [u8], list: &mut [u32]) -> bool {
+pub(crate) fn read(text: &mut [u8], list: &mut [u32]) -> bool {
     let t = next_bytes(list, text);
     if t > text.len() {
         return false;
@@ -218,7 +218,7 @@ pub fn read(text: &mut [u8], list: &mut [u32]) -> bool {
     answering::read(&text[..t], &mut list[..l])
 }
 
-pub fn write(sheet: &mut [u32], out: &mut [u8], words: &mut [u32]) -> bool {
+pub(crate) fn write(sheet: &mut [u32], out: &mut [u8], words: &mut [u32]) -> bool {
     let Narrow::Is(n) = next_narrow() else {
         return false;
     };
@@ -236,7 +236,7 @@ pub fn write(sheet: &mut [u32], out: &mut [u8], words: &mut [u32]) -> bool {
     answering::write(n, &sheet[..s], count, &mut out[..o], words)
 }
 
-pub fn run(
+pub(crate) fn run(
     text: &mut [u8],
     list: &mut [u32],
     book: &mut [u32],

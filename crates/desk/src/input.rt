@@ -7,23 +7,23 @@ ghost use lib.ListN.{length};
 const CHUNK: usize = 1024;
 
 // A word of the input.
-pub enum Word {
+pub(crate) enum Word {
     Is(usize),
     Missing,
 }
 
 // A word that 32 bits hold.
-pub enum Narrow {
+pub(crate) enum Narrow {
     Is(u32),
     Missing,
 }
 
-pub enum States {
+pub(crate) enum States {
     Are(u32, u32),
     Missing,
 }
 
-pub enum Counts {
+pub(crate) enum Counts {
     Are(usize, usize),
     Missing,
 }
@@ -42,7 +42,7 @@ fn half(bytes: &[u8], at: usize) -> u32
         | wide(bytes[at + 3]) << 24
 }
 
-pub fn next_word() -> Word {
+pub(crate) fn next_word() -> Word {
     let mut bytes = [0u8; 8];
     if io::read_full(STDIN_FILENO, &mut bytes) < 8 {
         return Word::Missing;
@@ -52,7 +52,7 @@ pub fn next_word() -> Word {
     Word::Is(low | high << 32)
 }
 
-pub fn next_narrow() -> Narrow {
+pub(crate) fn next_narrow() -> Narrow {
     let mut bytes = [0u8; 8];
     if io::read_full(STDIN_FILENO, &mut bytes) < 8 {
         return Narrow::Missing;
@@ -64,7 +64,7 @@ pub fn next_narrow() -> Narrow {
 }
 
 // A state and a successor.
-pub fn next_states() -> States {
+pub(crate) fn next_states() -> States {
     let Narrow::Is(i) = next_narrow() else {
         return States::Missing;
     };
@@ -75,7 +75,7 @@ pub fn next_states() -> States {
 }
 
 // A book count and a sheet count, or the two totals of a session.
-pub fn next_counts() -> Counts {
+pub(crate) fn next_counts() -> Counts {
     let Word::Is(books) = next_word() else {
         return Counts::Missing;
     };
@@ -120,7 +120,7 @@ fn next_chunk(part: &mut [u32]) -> bool
 }
 
 // Where the chunk ends that starts at a place before the end.
-pub fn chunk_end(from: usize, end: usize) -> usize
+pub(crate) fn chunk_end(from: usize, end: usize) -> usize
     requires { ⌜ from < end ⌝ }
     ensures { λ r. ⌜ (from < r) × (r ≤ end) × (r ≤ from + 1024) ⌝ }
 {
@@ -143,7 +143,7 @@ fn next_elements(part: &mut [u32]) -> bool {
 }
 
 // The next slice comes to the start of its room. Its length; where it is missing or too long, more than the room's.
-pub fn next_slice(room: &mut [u32]) -> usize {
+pub(crate) fn next_slice(room: &mut [u32]) -> usize {
     let next = next_word();
     let Word::Is(length) = next else {
         return usize::MAX;
@@ -174,7 +174,7 @@ fn narrow_bytes(elements: &[u32], bytes: &mut [u8], count: usize) -> bool
 }
 
 // The same of a slice of bytes, which comes through a room for words.
-pub fn next_bytes(words: &mut [u32], room: &mut [u8]) -> usize {
+pub(crate) fn next_bytes(words: &mut [u32], room: &mut [u8]) -> usize {
     let length = next_slice(words);
     if length > words.len() {
         return usize::MAX;

@@ -26,14 +26,14 @@ fn set_word(bytes: &mut [u8], at: usize, x: usize)
     }
 }
 
-pub fn put_word(x: usize) -> bool {
+pub(crate) fn put_word(x: usize) -> bool {
     let mut bytes = [0u8; 8];
     set_word(&mut bytes, 0, x);
     io::write_all(STDOUT_FILENO, &bytes)
 }
 
 // The common six.
-pub fn put_answer(answer: Answer) -> bool {
+pub(crate) fn put_answer(answer: Answer) -> bool {
     put_word(wide(answer.code));
     put_word(answer.place);
     put_word(answer.book_count);
@@ -42,7 +42,7 @@ pub fn put_answer(answer: Answer) -> bool {
     put_word(answer.added)
 }
 
-pub fn put_session(session: Session) -> bool {
+pub(crate) fn put_session(session: Session) -> bool {
     put_word(wide(session.n));
     put_word(session.book_count);
     put_word(session.sheet_count);
@@ -76,7 +76,7 @@ fn put_chunk(part: &[u32]) -> bool
     put_part(part, &mut bytes)
 }
 
-pub fn put_slice(part: &[u32]) -> bool {
+pub(crate) fn put_slice(part: &[u32]) -> bool {
     let mut at = 0;
     while at < part.len() {
         let end = crate::input::chunk_end(at, part.len());
@@ -99,7 +99,7 @@ fn widen_bytes(bytes: &[u8], elements: &mut [u32])
 }
 
 // The same of a slice of bytes, which goes through a room for words.
-pub fn put_bytes(bytes: &[u8], words: &mut [u32]) -> bool {
+pub(crate) fn put_bytes(bytes: &[u8], words: &mut [u32]) -> bool {
     let length = bytes.len();
     if length > words.len() {
         return false;
