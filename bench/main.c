@@ -79,7 +79,7 @@ static void random_rows(size_t count) {
 }
 
 static void learn_piece(Piece *p, const uint32_t *w, size_t count) {
-    if (ntekuzino_learn(N, w, count, p->book, BOOK, p->sheet, SHEET, p->answer) != NTEKUZINO_DONE) {
+    if (ntekuzino_learn(N, w, count, p->book, BOOK, p->sheet, SHEET, (ntekuzino_answer *)p->answer) != NTEKUZINO_DONE) {
         puts("an input is not learned");
         exit(1);
     }
@@ -96,14 +96,17 @@ static void write_recording(void) {
     recording_len = (size_t)(at + sprintf((char *)at, ".e\n") - recording);
 }
 
-/* ---- the calls, by each side; (b) makes the sheet anew from the transitions */
+/* ---- the calls, by each side; (b) makes the sheet anew from the transitions. Answers are kept as rows of numbers, to be
+ * compared; ours are structs of the same layout. */
 
-static void learn_ours(Side *s) { ntekuzino_learn(N, words, rows, s->book, BOOK, s->sheet, SHEET, s->answer); }
+#define ANSWER (ntekuzino_answer *)s->answer
+
+static void learn_ours(Side *s) { ntekuzino_learn(N, words, rows, s->book, BOOK, s->sheet, SHEET, ANSWER); }
 static void learn_same(Side *s) { same_learn(N, words, rows, s->book, BOOK, s->sheet, SHEET, s->answer); }
 static void learn_primes(Side *s) { primes_learn(N, words, rows, s->book, BOOK, s->sheet, SHEET, s->answer); }
 
 static void take_ours(Side *s) {
-    ntekuzino_take(N, extra_state, extra_next, s->book, BOOK, from.answer[2], s->sheet, SHEET, from.answer[3], s->answer);
+    ntekuzino_take(N, extra_state, extra_next, s->book, BOOK, from.answer[2], s->sheet, SHEET, from.answer[3], ANSWER);
 }
 static void take_same(Side *s) {
     same_take(N, extra_state, extra_next, s->book, BOOK, from.answer[2], s->sheet, SHEET, from.answer[3], s->answer);
@@ -112,15 +115,21 @@ static void take_primes(Side *s) { primes_learn(N, words, rows + 1, s->book, BOO
 
 #define PIECES                                                                                                          \
     N, a.book, BOOK, a.answer[2], a.sheet, SHEET, a.answer[3], b.book, BOOK, b.answer[2], b.sheet, SHEET, b.answer[3],    \
-        s->book, BOOK, s->sheet, SHEET, s->answer
-static void join_ours(Side *s) { ntekuzino_join(PIECES); }
-static void join_same(Side *s) { same_join(PIECES); }
+        s->book, BOOK, s->sheet, SHEET
+static void join_ours(Side *s) { ntekuzino_join(PIECES, ANSWER); }
+static void join_same(Side *s) { same_join(PIECES, s->answer); }
 
-static void apply_ours(Side *s) { ntekuzino_apply(N, from.sheet, SHEET, from.answer[3], extra_state, s->answer); }
+static void apply_ours(Side *s) {
+    ntekuzino_apply(N, from.sheet, SHEET, from.answer[3], extra_state, (ntekuzino_applied *)s->answer);
+}
 static void apply_same(Side *s) { same_apply(N, from.sheet, SHEET, from.answer[3], extra_state, s->answer); }
-static void read_ours(Side *s) { ntekuzino_read(recording, recording_len, s->list, BOOK, s->answer); }
+static void read_ours(Side *s) {
+    ntekuzino_read(recording, recording_len, s->list, BOOK, (ntekuzino_reading *)s->answer);
+}
 static void read_same(Side *s) { same_read(recording, recording_len, s->list, BOOK, s->answer); }
-static void write_ours(Side *s) { ntekuzino_write_sheet(N, from.sheet, SHEET, from.answer[3], s->text, TEXT, s->answer); }
+static void write_ours(Side *s) {
+    ntekuzino_write_sheet(N, from.sheet, SHEET, from.answer[3], s->text, TEXT, (ntekuzino_written *)s->answer);
+}
 static void write_same(Side *s) { same_write_sheet(N, from.sheet, SHEET, from.answer[3], s->text, TEXT, s->answer); }
 
 /* ---- measuring */

@@ -6,9 +6,8 @@
  *           may write is not const. Slices of one call must not overlap, where one of them may be written. A pointer is
  *           never NULL, not even with length 0, and is aligned for its type.
  * Counts.   How many words of a slice are in use: `book_count`. A count above its slice is refused with 3, not read.
- * Answers.  Every call writes its numbers into the array lent last, always all of them, and returns the code again.
- *           Numbers that a call has no use for are 0. The arrays have exactly the length written in the prototype:
- *           the library cannot check that.
+ * Answers.  Every call writes its numbers into the struct lent last, always all of them, and returns the code again.
+ *           Numbers that a call has no use for are 0. A struct is its fields in their order, one size_t each.
  * Safety.   With slices as described here every call ends, on every input, and touches no other memory. Nothing is
  *           kept between calls, nothing is allocated; calls on different memory may run at the same time.
  *
@@ -21,6 +20,7 @@
 #include <stdint.h>
 
 #ifdef __cplusplus
+static_assert(sizeof(size_t) == 8, "the library is compiled for 64 bits");
 extern "C" {
 #else
 _Static_assert(sizeof(size_t) == 8, "the library is compiled for 64 bits");
@@ -44,44 +44,60 @@ enum {
     NTEKUZINO_TEXT_ROOM = 12       /* the written text is longer than its slice */
 };
 
-/* What stands where in an answer: six numbers; apply and write_sheet have a seventh. */
-enum {
-    NTEKUZINO_CODE,
-    NTEKUZINO_PLACE,
-    NTEKUZINO_BOOK_COUNT,
-    NTEKUZINO_SHEET_COUNT,
-    NTEKUZINO_STRUCK,
-    NTEKUZINO_ADDED,
-    NTEKUZINO_STATE_AFTER = 6, /* apply */
-    NTEKUZINO_TEXT_LENGTH = 6  /* write_sheet */
-};
+/* The common answer. */
+typedef struct {
+    size_t code, place, book_count, sheet_count, struck, added;
+} ntekuzino_answer;
 
-/* What stands where in reading's answer: four numbers. */
-enum { NTEKUZINO_READ_CODE, NTEKUZINO_READ_PLACE, NTEKUZINO_READ_N, NTEKUZINO_READ_COUNT };
+/* apply's: the common answer, and the state that follows. */
+typedef struct {
+    size_t code, place, book_count, sheet_count, struck, added, state;
+} ntekuzino_applied;
 
-/* What stands where in a session: five numbers. */
-enum {
-    NTEKUZINO_SESSION_N,
-    NTEKUZINO_SESSION_BOOK_COUNT,
-    NTEKUZINO_SESSION_SHEET_COUNT,
-    NTEKUZINO_SESSION_STRUCK,
-    NTEKUZINO_SESSION_ADDED
-};
+/* write_sheet's: the common answer, and the length of the text. */
+typedef struct {
+    size_t code, place, book_count, sheet_count, struck, added, length;
+} ntekuzino_written;
+
+/* read's. */
+typedef struct {
+    size_t code, place, n, count;
+} ntekuzino_reading;
+
+/* A bench session. Struck and added are its totals; an answer's are those of its take alone. */
+typedef struct {
+    size_t n, book_count, sheet_count, struck, added;
+} ntekuzino_session;
+
+/* ---- words */
+
+static inline uint32_t ntekuzino_transition(uint32_t state, uint32_t successor) { return state * 1024 + successor; }
+static inline uint32_t ntekuzino_transition_state(uint32_t transition) { return transition / 1024; }
+static inline uint32_t ntekuzino_transition_successor(uint32_t transition) { return transition % 1024; }
+
+static inline uint32_t ntekuzino_rule(uint32_t head, uint32_t on, uint32_t off) {
+    return head * 1048576 + on * 1024 + off;
+}
+static inline uint32_t ntekuzino_rule_head(uint32_t rule) { return rule / 1048576; }
+static inline uint32_t ntekuzino_rule_on(uint32_t rule) { return rule / 1024 % 1024; }
+static inline uint32_t ntekuzino_rule_off(uint32_t rule) { return rule % 1024; }
+
+/* ---- calls */
 
 /* Writes the fresh sheet, n rules with empty bodies, and 0 beyond. Codes 2, 9. Refused: no word changes, counts 0. */
-uint32_t ntekuzino_fresh(uint32_t n, uint32_t *sheet, size_t sheet_len, size_t answer[6]);
+uint32_t ntekuzino_fresh(uint32_t n, uint32_t *sheet, size_t sheet_len, ntekuzino_answer *answer);
 
 /* Takes the transition from state i to state j into book and sheet, in place; room for the larger of the old and new
  * counts is enough. Codes 1 to 9. Done: the new counts, struck, added, and 0 in all words beyond both counts. Code 1 or
  * refused: no word changes, the counts are those given. */
 uint32_t ntekuzino_take(uint32_t n, uint32_t i, uint32_t j, uint32_t *book, size_t book_len, size_t book_count,
-                        uint32_t *sheet, size_t sheet_len, size_t sheet_count, size_t answer[6]);
+                        uint32_t *sheet, size_t sheet_len, size_t sheet_count, ntekuzino_answer *answer);
 
 /* Learns a list of transition words, old contents of book and sheet ignored. Codes 2, 6 to 10. Done: both counts, the
  * sums of struck and added, 0 beyond both counts. Refused: both slices are all 0, and the place is the index of the
  * refused word. */
 uint32_t ntekuzino_learn(uint32_t n, const uint32_t *words, size_t words_len, uint32_t *book, size_t book_len,
-                         uint32_t *sheet, size_t sheet_len, size_t answer[6]);
+                         uint32_t *sheet, size_t sheet_len, ntekuzino_answer *answer);
 
 /* Joins two pieces a and b, each a book and a sheet, into book and sheet. Codes 2 to 5, 7 to 9. Done: both counts, 0
  * beyond them. Refused: no word changes, counts 0. */
@@ -89,30 +105,32 @@ uint32_t ntekuzino_join(uint32_t n, const uint32_t *a_book, size_t a_book_len, s
                         const uint32_t *a_sheet, size_t a_sheet_len, size_t a_sheet_count,
                         const uint32_t *b_book, size_t b_book_len, size_t b_book_count,
                         const uint32_t *b_sheet, size_t b_sheet_len, size_t b_sheet_count,
-                        uint32_t *book, size_t book_len, uint32_t *sheet, size_t sheet_len, size_t answer[6]);
+                        uint32_t *book, size_t book_len, uint32_t *sheet, size_t sheet_len, ntekuzino_answer *answer);
 
-/* The state that follows x by the sheet, as the seventh number. Codes 2, 3, 5, 6. Refused: state 0. */
+/* The state that follows x by the sheet. Codes 2, 3, 5, 6. Refused: state 0. */
 uint32_t ntekuzino_apply(uint32_t n, const uint32_t *sheet, size_t sheet_len, size_t sheet_count, uint32_t x,
-                         size_t answer[7]);
+                         ntekuzino_applied *answer);
 
 /* Starts a session on a fresh sheet: all five numbers of the session are written. Codes 2, 9. Refused: five zeros, no
  * word of the sheet changes. */
-uint32_t ntekuzino_session_start(uint32_t n, uint32_t *sheet, size_t sheet_len, size_t session[5], size_t answer[6]);
+uint32_t ntekuzino_session_start(uint32_t n, uint32_t *sheet, size_t sheet_len, ntekuzino_session *session,
+                                 ntekuzino_answer *answer);
 
 /* Take through a session: n and the counts are the session's; refused with 3 also if a total is above 1,000,000,000 or
  * n + added differs from sheet count + struck. Done: counts and totals of the session are the new ones. Code 1 or
- * refused: no word changes, and no number of the session. A first number above 32 bits is no panel size: 2. */
-uint32_t ntekuzino_session_take(size_t session[5], uint32_t *book, size_t book_len, uint32_t *sheet, size_t sheet_len,
-                                uint32_t i, uint32_t j, size_t answer[6]);
+ * refused: no word changes, and no number of the session. An n above 32 bits is no panel size: 2. */
+uint32_t ntekuzino_session_take(ntekuzino_session *session, uint32_t *book, size_t book_len, uint32_t *sheet,
+                                size_t sheet_len, uint32_t i, uint32_t j, ntekuzino_answer *answer);
 
 /* Reads a recording (PLA text) into transition words. Codes 8, 11, with the line from 1 as the place of 11. Done: n, the
  * number of words, and 0 beyond. Refused: the list is all 0, n and count are 0. */
-uint32_t ntekuzino_read(const uint8_t *text, size_t text_len, uint32_t *list, size_t list_len, size_t answer[4]);
+uint32_t ntekuzino_read(const uint8_t *text, size_t text_len, uint32_t *list, size_t list_len,
+                        ntekuzino_reading *answer);
 
-/* Writes a sheet as text at the start of out; the seventh number is its length. Codes 2, 3, 5, 12. Bytes behind the text
+/* Writes a sheet as text at the start of out, and gives its length. Codes 2, 3, 5, 12. Bytes behind the text
  * stay; refused, no byte changes and the length is 0. */
 uint32_t ntekuzino_write_sheet(uint32_t n, const uint32_t *sheet, size_t sheet_len, size_t sheet_count, uint8_t *out,
-                               size_t out_len, size_t answer[7]);
+                               size_t out_len, ntekuzino_written *answer);
 
 /* The whole program `rulesheet`: a recording's text in; the sheet's text, or `refused C at P` with LF, at the start of
  * output. Returns its length; 0 where output has no room for either. An input above 24,576 bytes is refused with 13,

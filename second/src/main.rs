@@ -18,7 +18,7 @@ fn main() -> ExitCode {
     };
     done.unwrap_or_else(|error| {
         eprintln!("second: {error}");
-        ExitCode::FAILURE
+        ExitCode::from(2)
     })
 }
 
