@@ -5,7 +5,7 @@ use answers::plain_answer;
 ghost use mathlib.Core.Path.{_≡_};
 ghost use mathlib.Core.Bool.{true};
 ghost use Prim.Native.Nat.{_≤_};
-ghost use lib.ListN.{length};
+ghost use lib.ListN.{length, replicate};
 ghost use Rattle.table.specs.Lists.{all};
 ghost use Rattle.panel.specs.Rules.{validRule};
 ghost use Rattle.learning.specs.Learn.{reproduced, Learned};
@@ -95,22 +95,28 @@ fn count_reproduced(n: u32, book: &[u32], sheet: &[u32]) -> usize
     k
 }
 
+// A refused learn leaves nothing: 0 in every word of both slices.
+fn clear_both(book: &mut [u32], sheet: &mut [u32])
+    ensures { λ _. ⌜ (now (book .exit) ≡ replicate (length (now (book .entry))) 0) × (now (sheet .exit) ≡ replicate (length (now (sheet .entry))) 0) ⌝ }
+{
+    table::clear(book);
+    table::clear(sheet);
+}
+
 // The self-check, and the words beyond both tables cleared; a refusal clears all.
 fn learn_end(n: u32, so: Answer, book: &mut [u32], sheet: &mut [u32]) -> Answer
     requires { ⌜ Fit n so (now book) (now sheet) ⌝ }
     ensures { λ r. ⌜ Finished n so (now (book .entry)) (now (sheet .entry)) r (now (book .exit)) (now (sheet .exit)) ⌝ }
 {
     if so.code != 0 {
-        table::clear(book);
-        table::clear(sheet);
+        clear_both(book, sheet);
         return so;
     }
     let books = so.book_count;
     let sheets = so.sheet_count;
     let sound = count_reproduced(n, &book[..books], &sheet[..sheets]);
     if sound < books {
-        table::clear(book);
-        table::clear(sheet);
+        clear_both(book, sheet);
         return plain_answer(10, sound, 0, 0);
     }
     table::clear_from(book, books);

@@ -123,7 +123,7 @@ module _ (n : ℕ) (small : n ≤ 10) where
 
   pub take-good : (s : List ℕ) (t : ℕ) → Good n (takeSheet n s t)
   unfolding takeSheet
-  take-good s t = sheet-good n small (λ w. permits s w && spared t w)
+  take-good s t = sheet-good n small _
 
   pub take-permits : (s : List ℕ) (t w : ℕ) → Rule n w → permits (takeSheet n s t) w ≡ (permits s w && spared t w)
   unfolding takeSheet
@@ -153,7 +153,7 @@ module _ (n : ℕ) (small : n ≤ 10) where
 
   pub join-good : (s t : List ℕ) → Good n (joinSheet n s t)
   unfolding joinSheet
-  join-good s t = sheet-good n small (λ w. permits s w && permits t w)
+  join-good s t = sheet-good n small _
 
   pub join-permits : (s t : List ℕ) (w : ℕ) → Rule n w → permits (joinSheet n s t) w ≡ (permits s w && permits t w)
   unfolding joinSheet
