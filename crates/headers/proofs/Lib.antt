@@ -11,3 +11,4 @@ pub mod Splitting
 pub mod Accepting
 pub mod PlaceLaws
 pub mod Sizes
+pub mod Examples

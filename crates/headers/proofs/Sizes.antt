@@ -2,7 +2,6 @@
 use Prim.Native.Nat.{ℕ, _+_, _≤_}
 use mathlib.Core.Path.{_≡_, refl}
 use mathlib.Core.List.{List, [], _∷_, _++_}
-use mathlib.Core.Bool.{true}
 use native.Mathlib.Omega.{arith}
 use Rattle.lines.specs.Lines.{lineOf}
 use Rattle.lines.specs.Bounds.{LineOk}
