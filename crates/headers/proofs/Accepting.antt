@@ -43,22 +43,22 @@ pub record Finished (last : State) (n : ℕ) : Type 0 where
 
 finish-e : (st : State) (k n : ℕ) → finishOf st k ≡ Good n → Finished st n
 unfolding finishOf
-finish-e st k n v = go (st .ended) refl (st .seen .count) refl (eqb (st .want) (st .rows)) refl v
+finish-e st k n v = go _ _ (st .ended) refl (st .seen .count) refl (eqb (st .want) (st .rows)) refl v
   where
-    go : (e : Bool) → st .ended ≡ e → (c : Bool) → st .seen .count ≡ c → (w : Bool) → eqb (st .want) (st .rows) ≡ w
-        → cond e (cond c (cond w (Good (st .size)) (Bad (st .place))) (Good (st .size))) (Bad k) ≡ Good n → Finished st n
-    go false e c f w g v = absurd (good-or-bad n k (sym v))
-    go true e false f w g v = record { ended = e; counts = λ c. absurd (false≢true (sym f ∙ c)); size = cc }
-    go true e true f true g v = record { ended = e; counts = λ c. eqb-true (st .want) (st .rows) g; size = cc }
-    go true e true f false g v = absurd (good-or-bad n (st .place) (sym v))
+    go : (p q : ℕ) (e : Bool) → st .ended ≡ e → (c : Bool) → st .seen .count ≡ c → (w : Bool) → eqb (st .want) (st .rows) ≡ w
+        → cond e (cond c (cond w (Good (st .size)) (Bad p)) (Good (st .size))) (Bad q) ≡ Good n → Finished st n
+    go p q false e c f w g v = absurd (good-or-bad n q (sym v))
+    go p q true e false f w g v = record { ended = e; counts = λ c. absurd (false≢true (sym f ∙ c)); size = cc }
+    go p q true e true f true g v = record { ended = e; counts = λ c. eqb-true (st .want) (st .rows) g; size = cc }
+    go p q true e true f false g v = absurd (good-or-bad n p (sym v))
 
 pub finish-i : (st : State) (k n : ℕ) → Finished st n → finishOf st k ≡ Good n
 unfolding finishOf
-finish-i st k n f = rw (f .ended) (go (st .seen .count) refl) ∙ ap Good (f .size)
+finish-i st k n f = rw (f .ended) (go _ (st .seen .count) refl) ∙ ap Good (f .size)
   where
-    go : (c : Bool) → st .seen .count ≡ c → cond c (cond (eqb (st .want) (st .rows)) (Good (st .size)) (Bad (st .place))) (Good (st .size)) ≡ Good (st .size)
-    go true c = rw (eq-eqb (st .want) (st .rows) (f .counts c))
-    go false c = refl
+    go : (p : ℕ) (c : Bool) → st .seen .count ≡ c → cond c (cond (eqb (st .want) (st .rows)) (Good (st .size)) (Bad p)) (Good (st .size)) ≡ Good (st .size)
+    go p true c = rw (eq-eqb (st .want) (st .rows) (f .counts c))
+    go p false c = refl
 
 pub good-passes : (lay : Layout) (ls : List (List ℕ)) (n : ℕ) → judgeLines lay ls freshState 1 ≡ Good n → passes lay ls freshState 1 ≡ true
 good-passes lay ls n h =

@@ -209,7 +209,7 @@ fn end_allowed(lay: Layout, st: State) -> bool
     ensures { λ r. ⌜ r ≡ endAllowed lay st ⌝ }
 {
     if st.ended {
-        return false;
+        return false; // only blank lines and comments follow the end mark
     }
     let s = st.seen;
     is_ready(lay, s)

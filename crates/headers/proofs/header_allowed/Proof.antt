@@ -12,11 +12,17 @@ returns c = rw (sym (c .before .is-open .ensures) ∙ not-true (c .before .is-op
 
 returns-2 : tie.Need-returns-2
 unfolding headerAllowed
-returns-2 c = rw (sym (c .before .before .before .before .is-open .ensures) ∙ not-false (c .before .before .before .before .is-open .result) (c .before .before .before .if1 .left), sym (c .before .has-header .ensures) ∙ c .if2 .taken) refl
+returns-2 c =
+    let opened = c .before .before .before .before .is-open in
+    let stood = c .before .has-header in
+    rw (sym (opened .ensures) ∙ not-false (opened .result) (c .before .before .before .if1 .left), sym (stood .ensures) ∙ c .if2 .taken) refl
 
 returns-3 : tie.Need-returns-3
 unfolding headerAllowed
-returns-3 c = rw (sym (c .before .before .before .before .is-open .ensures) ∙ not-false (c .before .before .before .before .is-open .result) (c .before .before .before .if1 .left), sym (c .before .has-header .ensures) ∙ c .if2 .left) refl
+returns-3 c =
+    let opened = c .before .before .before .before .is-open in
+    let stood = c .before .has-header in
+    rw (sym (opened .ensures) ∙ not-false (opened .result) (c .before .before .before .if1 .left), sym (stood .ensures) ∙ c .if2 .left) refl
 
 pub header-allowed-spec : {M : Type 1} → statement M
 header-allowed-spec =

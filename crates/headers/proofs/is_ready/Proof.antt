@@ -12,15 +12,27 @@ returns c = rw (sym (c .before .lacks-header .ensures) ∙ c .if1 .taken) refl
 
 returns-2 : tie.Need-returns-2
 unfolding readyOf lacksNone
-returns-2 c = rw (sym (c .before .before .before .lacks-header .ensures) ∙ c .before .before .if1 .left, sym (c .before .lacks-header2 .ensures) ∙ c .if2 .taken) refl
+returns-2 c =
+    let ins = c .before .before .before .lacks-header in
+    let outs = c .before .lacks-header2 in
+    rw (sym (ins .ensures) ∙ c .before .before .if1 .left, sym (outs .ensures) ∙ c .if2 .taken) refl
 
 returns-3 : tie.Need-returns-3
 unfolding readyOf lacksNone
-returns-3 c = rw (sym (c .before .before .before .before .before .lacks-header .ensures) ∙ c .before .before .before .before .if1 .left, sym (c .before .before .before .lacks-header2 .ensures) ∙ c .before .before .if2 .left, sym (c .before .lacks-header3 .ensures) ∙ c .if3 .taken) refl
+returns-3 c =
+    let ins = c .before .before .before .before .before .lacks-header in
+    let outs = c .before .before .before .lacks-header2 in
+    let word = c .before .lacks-header3 in
+    rw (sym (ins .ensures) ∙ c .before .before .before .before .if1 .left, sym (outs .ensures) ∙ c .before .before .if2 .left, sym (word .ensures) ∙ c .if3 .taken) refl
 
 returns-4 : tie.Need-returns-4
 unfolding readyOf lacksNone
-returns-4 c = rw (sym (c .before .before .before .before .before .before .lacks-header .ensures) ∙ c .before .before .before .before .before .if1 .left, sym (c .before .before .before .before .lacks-header2 .ensures) ∙ c .before .before .before .if2 .left, sym (c .before .before .lacks-header3 .ensures) ∙ c .before .if3 .left) (last-lacked _ _ (c .lacks-header4 .ensures))
+returns-4 c =
+    let ins = c .before .before .before .before .before .before .lacks-header in
+    let outs = c .before .before .before .before .lacks-header2 in
+    let word = c .before .before .lacks-header3 in
+    rw (sym (ins .ensures) ∙ c .before .before .before .before .before .if1 .left, sym (outs .ensures) ∙ c .before .before .before .if2 .left, sym (word .ensures) ∙ c .before .if3 .left)
+    (last-lacked _ _ (c .lacks-header4 .ensures))
 
 pub is-ready-spec : {M : Type 1} → statement M
 is-ready-spec =

@@ -19,10 +19,15 @@ unfolding onlyOn
 loop-holds c = (omega arith, refl)
 
 returns : tie.Need-returns Inv-loop μ-loop
-returns c = sym (sym (c .before .before .before .loop .inv .1) ∙ only-here (10 - c .before .before .before .loop .h) (c .before .before .before .loop .h) (c .before .before .before .before .args .x) (omega arith) (c .if1 .taken ∙ c .before .power .ensures .0))
+returns c =
+    let loop = c .before .before .before .loop in
+    sym (sym (loop .inv .1) ∙ only-here (10 - loop .h) (loop .h) (c .before .before .before .before .args .x) (omega arith) (c .if1 .taken ∙ c .before .power .ensures .0))
 
 loop-again : tie.Need-loop-again Inv-loop μ-loop
-loop-again c = (omega arith, sym (only-step (c .before .before .before .loop .h) (c .before .before .before .before .args .x) (omega arith) (λ e. c .if1 .left (e ∙ sym (c .before .power .ensures .0)))) ∙ c .before .before .before .loop .inv .1)
+loop-again c =
+    let loop = c .before .before .before .loop in
+    let step = only-step (loop .h) (c .before .before .before .before .args .x) (omega arith) (λ e. c .if1 .left (e ∙ sym (c .before .power .ensures .0))) in
+    (omega arith, sym step ∙ loop .inv .1)
 
 returns-2 : tie.Need-returns-2 Inv-loop μ-loop
 returns-2 c = only-end (c .before .loop .h) (c .before .before .args .x) (omega arith) (c .before .loop .inv .1)

@@ -12,11 +12,15 @@ returns c = rw (sym (c .before .end-allowed .ensures) ∙ not-true (c .before .e
 
 returns-2 : tie.Need-returns-2
 unfolding rowAllowed
-returns-2 c = rw (sym (c .before .before .before .before .end-allowed .ensures) ∙ not-false (c .before .before .before .before .end-allowed .result) (c .before .before .before .if1 .left)) (simp (ne-eqb _ _ (c .if2 .taken)))
+returns-2 c =
+    let ends = c .before .before .before .before .end-allowed in
+    rw (sym (ends .ensures) ∙ not-false (ends .result) (c .before .before .before .if1 .left)) (simp (ne-eqb _ _ (c .if2 .taken)))
 
 returns-3 : tie.Need-returns-3
 unfolding rowAllowed
-returns-3 c = rw (sym (c .before .before .before .before .before .end-allowed .ensures) ∙ not-false (c .before .before .before .before .before .end-allowed .result) (c .before .before .before .before .if1 .left), eq-eqb _ _ (c .before .if2 .left)) (c .row-fits .ensures)
+returns-3 c =
+    let ends = c .before .before .before .before .before .end-allowed in
+    rw (sym (ends .ensures) ∙ not-false (ends .result) (c .before .before .before .before .if1 .left), eq-eqb _ _ (c .before .if2 .left)) (c .row-fits .ensures)
 
 pub row-allowed-spec : {M : Type 1} → statement M
 row-allowed-spec =

@@ -10,19 +10,31 @@ use Rattle.headers.proofs.row_fits.Tie as tie
 
 returns : tie.Need-returns
 unfolding rowFits
-returns c = rw (sym (c .before .free-of .ensures) ∙ not-true (c .before .free-of .result) (c .if1 .taken)) refl
+returns c = let inputs = c .before .free-of in rw (sym (inputs .ensures) ∙ not-true (inputs .result) (c .if1 .taken)) refl
 
 returns-2 : tie.Need-returns-2
 unfolding rowFits
-returns-2 c = rw (sym (c .before .before .before .free-of .ensures) ∙ not-false (c .before .before .before .free-of .result) (c .before .before .if1 .left), sym (c .before .free-of2 .ensures) ∙ not-true (c .before .free-of2 .result) (c .if2 .taken)) refl
+returns-2 c =
+    let inputs = c .before .before .before .free-of in
+    let outputs = c .before .free-of2 in
+    rw (sym (inputs .ensures) ∙ not-false (inputs .result) (c .before .before .if1 .left), sym (outputs .ensures) ∙ not-true (outputs .result) (c .if2 .taken)) refl
 
 returns-3 : tie.Need-returns-3
 unfolding rowFits
-returns-3 c = rw (sym (c .before .before .before .before .before .free-of .ensures) ∙ not-false (c .before .before .before .before .before .free-of .result) (c .before .before .before .before .if1 .left), sym (c .before .before .before .free-of2 .ensures) ∙ not-false (c .before .before .before .free-of2 .result) (c .before .before .if2 .left), not-true (c .before .before .before .before .before .before .args .lay .single) (c .if3 .taken)) refl
+returns-3 c =
+    let inputs = c .before .before .before .before .before .free-of in
+    let outputs = c .before .before .before .free-of2 in
+    let lay = c .before .before .before .before .before .before .args .lay in
+    rw (sym (inputs .ensures) ∙ not-false (inputs .result) (c .before .before .before .before .if1 .left), sym (outputs .ensures) ∙ not-false (outputs .result) (c .before .before .if2 .left), not-true (lay .single) (c .if3 .taken)) refl
 
 returns-4 : tie.Need-returns-4
 unfolding rowFits
-returns-4 c = rw (sym (c .before .before .before .before .before .before .free-of .ensures) ∙ not-false (c .before .before .before .before .before .before .free-of .result) (c .before .before .before .before .before .if1 .left), sym (c .before .before .before .before .free-of2 .ensures) ∙ not-false (c .before .before .before .before .free-of2 .result) (c .before .before .before .if2 .left), not-false (c .before .before .before .before .before .before .before .args .lay .single) (c .before .if3 .left)) (ap (λ (n : ℕ). ltb n 10) (c .only-on .ensures))
+returns-4 c =
+    let inputs = c .before .before .before .before .before .before .free-of in
+    let outputs = c .before .before .before .before .free-of2 in
+    let lay = c .before .before .before .before .before .before .before .args .lay in
+    rw (sym (inputs .ensures) ∙ not-false (inputs .result) (c .before .before .before .before .before .if1 .left), sym (outputs .ensures) ∙ not-false (outputs .result) (c .before .before .before .if2 .left), not-false (lay .single) (c .before .if3 .left))
+    (ap (λ (n : ℕ). ltb n 10) (c .only-on .ensures))
 
 pub row-fits-spec : {M : Type 1} → statement M
 row-fits-spec =
