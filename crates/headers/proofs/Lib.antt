@@ -1,7 +1,14 @@
+pub mod Fitting
+pub mod Passing
+pub mod Seeing
 pub mod Counts
 pub mod Kept
 pub mod Turns
-pub mod Passing
+pub mod Machine
 pub mod Completing
+pub mod After
+pub mod Splitting
+pub mod Accepting
 pub mod PlaceLaws
 pub mod Sizes
+pub mod Examples

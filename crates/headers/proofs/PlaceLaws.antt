@@ -5,27 +5,32 @@ use mathlib.Core.Path.{_≡_, refl, sym, _∙_, ap}
 use mathlib.Core.List.{List, [], _∷_, _++_, append-assoc}
 use mathlib.Core.Logic.{_↔_, _⊎_, inl, inr, ⊎-elim}
 use mathlib.Core.Bool.{Bool, true, false, cond, _||_, false≢true}
-use native.Mathlib.Omega.{arith}
 use native.Mathlib.Nat.{zero-add}
 use lib.Dec.{eqb}
 use lib.ListN.{length}
-use borrow.Author.Tests.{eq-eqb, ne-eqb, eqb-false}
+use borrow.Author.Tests.{ne-eqb, eqb-false}
 use Rattle.table.proofs.Basics.{and-i, and-l}
 use Rattle.fields.specs.Texts.{linesOf}
 use Rattle.fields.proofs.JoinLaws.{NoFeed, NoFeeds, textOf, lines-of-text, lines-no-feeds, append-no-feeds}
 use Rattle.lines.specs.Lines.{lineOf}
-use Rattle.lines.specs.declared.Kind.{Kind}
-use Rattle.lines.specs.declared.Part.the-variants.{Ins, Outs}
 use Rattle.lines.specs.declared.Line.{Line}
 use Rattle.lines.specs.declared.Line.the-variants.{Empty, Sized, Typed, Rows, Row, End, Fault}
 use Rattle.lines.proofs.Written.{countText, count-text, count-no-feed}
-use Rattle.headers.specs.Headers.{allowedOf, nextOf, freshState}
+use Rattle.headers.specs.Headers.{allowedAt, nextOf, nextAt, freshState}
 use Rattle.headers.specs.Verdicts.{finishOf, judgeLines, judgeOf}
-use Rattle.headers.specs.Places.{Counts, Alike, Begins, isRow, rowsIn, endIn, FaultyLine, EndMissing, WrongCount, Place}
+use Rattle.headers.specs.Accepted.{isRow, rowsIn, Accepted}
+use Rattle.headers.specs.Places.{Counts, Alike, Begins, endIn, FaultyLine, EndMissing, WrongCount, Place}
+use Rattle.headers.specs.declared.Layout.{Layout}
+use Rattle.headers.specs.declared.Header.the-variants.{Count}
 use Rattle.headers.specs.declared.State.{State}
+use Rattle.headers.specs.declared.Verdict.{Verdict}
 use Rattle.headers.specs.declared.Verdict.the-variants.{Good, Bad}
-use Rattle.headers.proofs.Passing.{allPass, stateAfter, judge-passing, judge-stuck, Stuck, pass-or-stuck, pass-first, pass-append, pass-others, after-append, after-rows, after-ended, Counted, counted-at, count-in, alike-pass}
+use Rattle.headers.proofs.Passing.{stateAfter, allPass, Stuck, pass-or-stuck, pass-first, pass-append, pass-others, after-append}
+use Rattle.headers.proofs.Machine.{passes, after, judge-passing, judge-stuck, after-rows, after-ended}
+use Rattle.headers.proofs.Seeing.{has-next}
+use Rattle.headers.proofs.After.{Counted, counted-at, count-in, alike-pass}
 use Rattle.headers.proofs.Completing.{sound-passing, leads-on}
+use Rattle.headers.proofs.Accepting.{good-or-bad, finish-i, good-text, text-passes, good-iff-text}
 
 -- ---- lines with another number after `.p`
 
@@ -83,83 +88,65 @@ recount-is-row End r l e = ap isRow e
 recount-is-row Fault r l e = ap isRow e
 
 recount-rows : (r : ℕ) (ls : List (List ℕ)) → rowsIn (recount r ls) ≡ rowsIn ls
-unfolding recount
+unfolding recount rowsIn
 recount-rows r [] = refl
 recount-rows r (l ∷ ls) = rw (recount-is-row (lineOf l) r l refl, recount-rows r ls)
 
 -- a state whose `.p`, if it stood there, has the number r
 abbrev Wants : ℕ → State → Type 0
-Wants r st = st .counted ≡ true → st .want ≡ r
+Wants r st = st .seen .count ≡ true → st .want ≡ r
 
 recount-want-line : (x : Line) (r : ℕ) (l : List ℕ) (st : State) (k : ℕ) → lineOf l ≡ x → Wants r st → Wants r (nextOf st (lineOf (recountAs x r l)) k)
 unfolding recountAs
 recount-want-line Empty r l st k e h = rw e h
-recount-want-line (Sized Ins n) r l st k e h = rw e h
-recount-want-line (Sized Outs n) r l st k e h = rw e h
+recount-want-line (Sized p n) r l st k e h = rw e (λ c. h (sym (has-next st (Sized p n) k Count) ∙ c))
 recount-want-line (Typed t) r l st k e h = rw e h
 recount-want-line (Rows v) r l st k e h = rw (count-text r) (λ c. refl)
 recount-want-line (Row m) r l st k e h = rw e h
 recount-want-line End r l st k e h = rw e h
 recount-want-line Fault r l st k e h = rw e h
 
-recount-wants : (r : ℕ) (ls : List (List ℕ)) (st : State) (k : ℕ) → Wants r st → Wants r (stateAfter (recount r ls) st k)
-unfolding recount stateAfter
+recount-wants : (r : ℕ) (ls : List (List ℕ)) (st : State) (k : ℕ) → Wants r st → Wants r (after (recount r ls) st k)
+unfolding recount stateAfter nextAt
 recount-wants r [] st k h = h
 recount-wants r (l ∷ ls) st k h =
     recount-wants r ls (nextOf st (lineOf (recountAs (lineOf l) r l)) k) (k + 1) (recount-want-line (lineOf l) r l st k refl h)
 
 -- ---- lines begin an accepted text exactly when they all pass
 
-finish-good : (st : State) (k r : ℕ) → st .ended ≡ true → Wants r st → st .rows ≡ r → finishOf st k ≡ Good (st .size)
-unfolding finishOf
-finish-good st k r e w h = rw e (go (st .counted) refl)
-  where
-    go : (c : Bool) → st .counted ≡ c → cond c (cond (eqb (st .want) (st .rows)) (Good (st .size)) (Bad (st .place))) (Good (st .size)) ≡ Good (st .size)
-    go true c = rw (eq-eqb (st .want) (st .rows) (w c ∙ sym h))
-    go false c = refl
-
-pub passes-begins : (kd : Kind) (ls : List (List ℕ)) → NoFeeds ls → allPass kd ls freshState 1 ≡ true → Begins kd ls
-unfolding judgeOf
-passes-begins kd ls clean h =
+pub passes-begins : (lay : Layout) (ls : List (List ℕ)) → NoFeeds ls → passes lay ls freshState 1 ≡ true → Begins lay ls
+passes-begins lay ls clean h =
     let r = rowsIn ls in
     let ms = recount r ls in
-    let p : allPass kd ms freshState 1 ≡ true = sym (alike-pass kd ls ms freshState freshState 1 (recount-alike r ls) refl) ∙ h in
-    let st = stateAfter ms freshState 1 in
-    let c = leads-on kd st (length ms + 1) (sound-passing kd ms p) in
+    let p : passes lay ms freshState 1 ≡ true = sym (alike-pass lay ls ms freshState freshState 1 (recount-alike r ls) refl) ∙ h in
+    let st = after ms freshState 1 in
+    let c = leads-on lay st (length ms + 1) (sound-passing lay ms p) in
+    let last = after (c .0) st (length ms + 1) in
     let lines : linesOf (textOf (ms ++ c .0)) ≡ ms ++ c .0 = lines-of-text (ms ++ c .0) (append-no-feeds ms (c .0) (recount-clean r ls clean) (c .1 .clean)) in
-    let rows : stateAfter (c .0) st (length ms + 1) .rows ≡ r = c .1 .rows ∙ after-rows ms freshState 1 ∙ zero-add (rowsIn ms) ∙ recount-rows r ls in
-    let wants : Wants r (stateAfter (c .0) st (length ms + 1)) = λ d. c .1 .want ∙ recount-wants r ls freshState 1 (λ z. none z) (sym (c .1 .counted) ∙ d) in
+    let rows : last .rows ≡ r = c .1 .beside .rows ∙ after-rows ms freshState 1 ∙ zero-add (rowsIn ms) ∙ recount-rows r ls in
+    let wants : Wants r last = λ d. c .1 .beside .want ∙ recount-wants r ls freshState 1 (λ z. none z) (sym (c .1 .beside .count) ∙ d) in
+    let good : judgeLines lay (linesOf (textOf (ms ++ c .0))) freshState 1 ≡ Good (last .size) =
+    ap (λ (x : List (List ℕ)). judgeLines lay x freshState 1) lines
+    ∙ judge-passing lay (ms ++ c .0) freshState 1 (pass-append (allowedAt lay) nextAt ms (c .0) freshState 1 p (c .1 .passing))
+    ∙ ap (λ (s : State). finishOf s (length (ms ++ c .0) + 1)) (after-append nextAt ms (c .0) freshState 1)
+    ∙ finish-i last _ (last .size) (record { ended = c .1 .ended; counts = λ d. wants d ∙ sym rows; size = refl }) in
     record {
       text = textOf (ms ++ c .0);
       first = ms;
       others = c .0;
       lines = lines;
       alike = recount-alike r ls;
-      accepted = (
-        stateAfter (c .0) st (length ms + 1) .size,
-        ap (λ (x : List (List ℕ)). judgeLines kd x freshState 1) lines
-            ∙ judge-passing kd (ms ++ c .0) freshState 1 (pass-append kd ms (c .0) freshState 1 p (c .1 .passing))
-            ∙ ap (λ (s : State). finishOf s (length (ms ++ c .0) + 1)) (after-append ms (c .0) freshState 1)
-            ∙ finish-good (stateAfter (c .0) st (length ms + 1)) _ r (c .1 .ended) wants rows,
-      );
+      size = last .size;
+      accepted = good-text lay (linesOf (textOf (ms ++ c .0))) (last .size) good;
     }
   where
     none : false ≡ true → _≡_ {A = ℕ} 0 (rowsIn ls)
     none e = absurd (false≢true e)
 
-pub good-or-bad : (n k : ℕ) → Good n ≡ Bad k → ⊥
-good-or-bad n k e = let z : _≡_ {A = ℕ} 0 1 = cc in omega arith
-
-pub begins-passes : (kd : Kind) (ls : List (List ℕ)) → Begins kd ls → allPass kd ls freshState 1 ≡ true
-unfolding judgeOf
-begins-passes kd ls b =
-    let v : judgeLines kd (b .first ++ b .others) freshState 1 ≡ Good (b .accepted .0) = ap (λ (x : List (List ℕ)). judgeLines kd x freshState 1) (sym (b .lines)) ∙ b .accepted .1 in
-    alike-pass kd ls (b .first) freshState freshState 1 (b .alike) refl
-    ∙ pass-first kd (b .first) (b .others) freshState 1
-    (⊎-elim (λ p. p)
-    (λ (s : Stuck kd (b .first ++ b .others) freshState 1). absurd (good-or-bad (b .accepted .0) (length (s .before) + 1)
-    (sym v ∙ ap (λ (x : List (List ℕ)). judgeLines kd x freshState 1) (s .lines) ∙ judge-stuck kd (s .before) (s .line) (s .after) freshState 1 (s .passed) (s .stopped))))
-    (pass-or-stuck kd (b .first ++ b .others) freshState 1))
+pub begins-passes : (lay : Layout) (ls : List (List ℕ)) → Begins lay ls → passes lay ls freshState 1 ≡ true
+begins-passes lay ls b =
+    alike-pass lay ls (b .first) freshState freshState 1 (b .alike) refl
+    ∙ pass-first (allowedAt lay) nextAt (b .first) (b .others) freshState 1 (rw (b .lines) at (text-passes lay (b .size) (linesOf (b .text)) (b .accepted)))
 
 -- ---- the theorem
 
@@ -171,9 +158,9 @@ or-end : (a : Bool) → (a || false) ≡ a
 or-end true = refl
 or-end false = refl
 
-module _ (kd : Kind) (t : List ℕ) where
+module _ (lay : Layout) (t : List ℕ) where
   abbrev last : State
-  last = stateAfter (linesOf t) freshState 1
+  last = after (linesOf t) freshState 1
 
   ended-is : last .ended ≡ endIn (linesOf t)
   ended-is = after-ended (linesOf t) freshState 1 ∙ or-end (endIn (linesOf t))
@@ -181,29 +168,29 @@ module _ (kd : Kind) (t : List ℕ) where
   rows-are : last .rows ≡ rowsIn (linesOf t)
   rows-are = after-rows (linesOf t) freshState 1 ∙ zero-add (rowsIn (linesOf t))
 
-  passing-verdict : allPass kd (linesOf t) freshState 1 ≡ true → judgeOf kd t ≡ finishOf last (length (linesOf t) + 1)
+  passing-verdict : passes lay (linesOf t) freshState 1 ≡ true → judgeOf lay t ≡ finishOf last (length (linesOf t) + 1)
   unfolding judgeOf
-  passing-verdict p = judge-passing kd (linesOf t) freshState 1 p
+  passing-verdict p = judge-passing lay (linesOf t) freshState 1 p
 
   -- the first line that is not allowed is faulty, and the verdict's place
-  module _ (pre : List (List ℕ)) (l : List ℕ) (post : List (List ℕ)) (e : linesOf t ≡ pre ++ l ∷ post) (p : allPass kd pre freshState 1 ≡ true) where
-    stuck-verdict : allowedOf kd (stateAfter pre freshState 1) (lineOf l) ≡ false → judgeOf kd t ≡ Bad (length pre + 1)
+  module _ (pre : List (List ℕ)) (l : List ℕ) (post : List (List ℕ)) (e : linesOf t ≡ pre ++ l ∷ post) (p : passes lay pre freshState 1 ≡ true) where
+    stuck-verdict : allowedAt lay (after pre freshState 1) l ≡ false → judgeOf lay t ≡ Bad (length pre + 1)
     unfolding judgeOf
-    stuck-verdict s = ap (λ (x : List (List ℕ)). judgeLines kd x freshState 1) e ∙ judge-stuck kd pre l post freshState 1 p s
+    stuck-verdict s = ap (λ (x : List (List ℕ)). judgeLines lay x freshState 1) e ∙ judge-stuck lay pre l post freshState 1 p s
 
     -- one line more passes exactly if it is allowed
-    one-more : allPass kd (pre ++ l ∷ []) freshState 1 ≡ true → allowedOf kd (stateAfter pre freshState 1) (lineOf l) ≡ true
+    one-more : passes lay (pre ++ l ∷ []) freshState 1 ≡ true → allowedAt lay (after pre freshState 1) l ≡ true
     unfolding allPass
-    one-more q = and-l (allowedOf kd (stateAfter pre freshState 1) (lineOf l)) _ (pass-others kd pre (l ∷ []) freshState 1 q)
+    one-more q = and-l (allowedAt lay (after pre freshState 1) l) _ (pass-others (allowedAt lay) nextAt pre (l ∷ []) freshState 1 q)
 
-    one-more-back : allowedOf kd (stateAfter pre freshState 1) (lineOf l) ≡ true → allPass kd (pre ++ l ∷ []) freshState 1 ≡ true
+    one-more-back : allowedAt lay (after pre freshState 1) l ≡ true → passes lay (pre ++ l ∷ []) freshState 1 ≡ true
     unfolding allPass
-    one-more-back a = pass-append kd pre (l ∷ []) freshState 1 p (and-i _ _ a refl)
+    one-more-back a = pass-append (allowedAt lay) nextAt pre (l ∷ []) freshState 1 p (and-i _ _ a refl)
 
     pre-clean : NoFeeds (pre ++ l ∷ [])
     pre-clean = first-no-feeds (pre ++ l ∷ []) post (rw (append-assoc pre (l ∷ []) post, ← e) (lines-no-feeds t))
 
-  stuck-faulty : (k : ℕ) → judgeOf kd t ≡ Bad k → Stuck kd (linesOf t) freshState 1 → FaultyLine kd t k
+  stuck-faulty : (k : ℕ) → judgeOf lay t ≡ Bad k → Stuck (allowedAt lay) nextAt (linesOf t) freshState 1 → FaultyLine lay t k
   stuck-faulty k h s =
       let v : Bad k ≡ Bad (length (s .before) + 1) = sym h ∙ stuck-verdict (s .before) (s .line) (s .after) (s .lines) (s .passed) (s .stopped) in
       record {
@@ -212,21 +199,21 @@ module _ (kd : Kind) (t : List ℕ) where
         after = s .after;
         lines = s .lines;
         number = cc;
-        begins = passes-begins kd (s .before) (first-no-feeds (s .before) (s .line ∷ s .after) (rw (s .lines) at (lines-no-feeds t))) (s .passed);
+        begins = passes-begins lay (s .before) (first-no-feeds (s .before) (s .line ∷ s .after) (rw (s .lines) at (lines-no-feeds t))) (s .passed);
         begins-no-more = λ b.
-            let a = one-more (s .before) (s .line) (s .after) (s .lines) (s .passed) (begins-passes kd (s .before ++ s .line ∷ []) b) in
+            let a = one-more (s .before) (s .line) (s .after) (s .lines) (s .passed) (begins-passes lay (s .before ++ s .line ∷ []) b) in
             false≢true (sym (s .stopped) ∙ a);
       }
 
   -- a text whose lines all pass is refused only at its end
-  passing-place : (k : ℕ) → judgeOf kd t ≡ Bad k → allPass kd (linesOf t) freshState 1 ≡ true → EndMissing kd t k ⊎ WrongCount kd t k
+  passing-place : (k : ℕ) → judgeOf lay t ≡ Bad k → passes lay (linesOf t) freshState 1 ≡ true → EndMissing lay t k ⊎ WrongCount lay t k
   unfolding finishOf
-  passing-place k h p = go (last .ended) refl (last .counted) refl (eqb (last .want) (last .rows)) refl (sym h ∙ passing-verdict p)
+  passing-place k h p = go (last .ended) refl (last .seen .count) refl (eqb (last .want) (last .rows)) refl (sym h ∙ passing-verdict p)
     where
-      wrong : last .ended ≡ true → last .counted ≡ true → eqb (last .want) (last .rows) ≡ false → Bad k ≡ Bad (last .place) → WrongCount kd t k
+      wrong : last .ended ≡ true → last .seen .count ≡ true → eqb (last .want) (last .rows) ≡ false → Bad k ≡ Bad (last .place) → WrongCount lay t k
       wrong e c w v =
           let i = count-in (linesOf t) freshState 1 refl c in
-          let d : Counted (i .count) (length (i .before) + 1) last = counted-at kd (linesOf t) (i .before) (i .line) (i .after) freshState 1 (i .count) (i .lines) (i .counts) p in
+          let d : Counted (i .count) (length (i .before) + 1) last = counted-at lay (linesOf t) (i .before) (i .line) (i .after) freshState 1 (i .count) (i .lines) (i .counts) p in
           record {
             before = i .before;
             line = i .line;
@@ -235,47 +222,75 @@ module _ (kd : Kind) (t : List ℕ) where
             lines = i .lines;
             number = let q : k ≡ last .place = cc in q ∙ d .at;
             counts = i .counts;
-            begins = passes-begins kd (linesOf t) (lines-no-feeds t) p;
+            begins = passes-begins lay (linesOf t) (lines-no-feeds t) p;
             ended = sym ended-is ∙ e;
             wrong = λ q. eqb-false (last .want) (last .rows) w (d .count ∙ q ∙ sym rows-are);
           }
 
-      go : (e : Bool) → last .ended ≡ e → (c : Bool) → last .counted ≡ c → (w : Bool) → eqb (last .want) (last .rows) ≡ w
+      go : (e : Bool) → last .ended ≡ e → (c : Bool) → last .seen .count ≡ c → (w : Bool) → eqb (last .want) (last .rows) ≡ w
           → Bad k ≡ cond e (cond c (cond w (Good (last .size)) (Bad (last .place))) (Good (last .size))) (Bad (length (linesOf t) + 1))
-          → EndMissing kd t k ⊎ WrongCount kd t k
-      go false e c f w g v = inl (record { begins = passes-begins kd (linesOf t) (lines-no-feeds t) p; endless = sym ended-is ∙ e; number = cc })
+          → EndMissing lay t k ⊎ WrongCount lay t k
+      go false e c f w g v = inl (record { begins = passes-begins lay (linesOf t) (lines-no-feeds t) p; endless = sym ended-is ∙ e; number = cc })
       go true e false f w g v = absurd (good-or-bad (last .size) k (sym v))
       go true e true f true g v = absurd (good-or-bad (last .size) k (sym v))
       go true e true f false g v = inr (wrong e f g v)
 
-  pub bad-place : (k : ℕ) → judgeOf kd t ≡ Bad k → Place kd t k
-  bad-place k h = ⊎-elim (λ p. inr (passing-place k h p)) (λ s. inl (stuck-faulty k h s)) (pass-or-stuck kd (linesOf t) freshState 1)
+  pub bad-place : (k : ℕ) → judgeOf lay t ≡ Bad k → Place lay t k
+  bad-place k h = ⊎-elim (λ p. inr (passing-place k h p)) (λ s. inl (stuck-faulty k h s)) (pass-or-stuck (allowedAt lay) nextAt (linesOf t) freshState 1)
 
-  faulty-bad : (k : ℕ) → FaultyLine kd t k → judgeOf kd t ≡ Bad k
-  faulty-bad k f = go (allowedOf kd (stateAfter (f .before) freshState 1) (lineOf (f .line))) refl
+  faulty-bad : (k : ℕ) → FaultyLine lay t k → judgeOf lay t ≡ Bad k
+  faulty-bad k f = go (allowedAt lay (after (f .before) freshState 1) (f .line)) refl
     where
-      passed : allPass kd (f .before) freshState 1 ≡ true
-      passed = begins-passes kd (f .before) (f .begins)
+      passed : passes lay (f .before) freshState 1 ≡ true
+      passed = begins-passes lay (f .before) (f .begins)
 
-      go : (a : Bool) → allowedOf kd (stateAfter (f .before) freshState 1) (lineOf (f .line)) ≡ a → judgeOf kd t ≡ Bad k
+      go : (a : Bool) → allowedAt lay (after (f .before) freshState 1) (f .line) ≡ a → judgeOf lay t ≡ Bad k
       go true a =
-          absurd (f .begins-no-more (passes-begins kd (f .before ++ f .line ∷ []) (pre-clean (f .before) (f .line) (f .after) (f .lines) passed)
+          absurd (f .begins-no-more (passes-begins lay (f .before ++ f .line ∷ []) (pre-clean (f .before) (f .line) (f .after) (f .lines) passed)
           (one-more-back (f .before) (f .line) (f .after) (f .lines) passed a)))
       go false a = stuck-verdict (f .before) (f .line) (f .after) (f .lines) passed a ∙ ap Bad (sym (f .number))
 
-  missing-bad : (k : ℕ) → EndMissing kd t k → judgeOf kd t ≡ Bad k
+  missing-bad : (k : ℕ) → EndMissing lay t k → judgeOf lay t ≡ Bad k
   unfolding finishOf
-  missing-bad k m = passing-verdict (begins-passes kd (linesOf t) (m .begins)) ∙ rw (ended-is ∙ m .endless) (ap Bad (sym (m .number)))
+  missing-bad k m = passing-verdict (begins-passes lay (linesOf t) (m .begins)) ∙ rw (ended-is ∙ m .endless) (ap Bad (sym (m .number)))
 
-  count-bad : (k : ℕ) → WrongCount kd t k → judgeOf kd t ≡ Bad k
+  count-bad : (k : ℕ) → WrongCount lay t k → judgeOf lay t ≡ Bad k
   unfolding finishOf
   count-bad k w =
-      let p = begins-passes kd (linesOf t) (w .begins) in
-      let d : Counted (w .count) (length (w .before) + 1) last = counted-at kd (linesOf t) (w .before) (w .line) (w .after) freshState 1 (w .count) (w .lines) (w .counts) p in
+      let p = begins-passes lay (linesOf t) (w .begins) in
+      let d : Counted (w .count) (length (w .before) + 1) last = counted-at lay (linesOf t) (w .before) (w .line) (w .after) freshState 1 (w .count) (w .lines) (w .counts) p in
       passing-verdict p
       ∙ rw (ended-is ∙ w .ended, d .is, ne-eqb (last .want) (last .rows) (λ q. w .wrong (sym (d .count) ∙ q ∙ rows-are)))
       (ap Bad (d .at ∙ sym (w .number)))
 
   -- a text is refused at k exactly when k is the place of a fault as 01 defines it
-  pub bad-iff-place : (k : ℕ) → (judgeOf kd t ≡ Bad k) ↔ Place kd t k
+  pub bad-iff-place : (k : ℕ) → (judgeOf lay t ≡ Bad k) ↔ Place lay t k
   bad-iff-place k = (bad-place k, λ p. ⊎-elim (faulty-bad k) (λ q. ⊎-elim (missing-bad k) (count-bad k) q) p)
+
+-- ---- the definitions leave no choice
+
+module _ (lay : Layout) (t : List ℕ) where
+  -- a text is one of the layout for some number of relays, or it has a fault
+  pub accepted-or-place : ((n : ℕ) × Accepted lay n t) ⊎ ((k : ℕ) × Place lay t k)
+  accepted-or-place = go (judgeOf lay t) refl
+    where
+      go : (v : Verdict) → judgeOf lay t ≡ v → ((n : ℕ) × Accepted lay n t) ⊎ ((k : ℕ) × Place lay t k)
+      go (Good n) e = inl (n, good-iff-text lay t n .0 e)
+      go (Bad k) e = inr (k, bad-iff-place lay t k .0 e)
+
+  -- and not both
+  pub accepted-no-place : (n k : ℕ) → Accepted lay n t → Place lay t k → ⊥
+  accepted-no-place n k a p = good-or-bad n k (sym (good-iff-text lay t n .1 a) ∙ bad-iff-place lay t k .1 p)
+
+  -- the number of relays is one, and so is the place
+  pub one-size : (n m : ℕ) → Accepted lay n t → Accepted lay m t → n ≡ m
+  one-size n m a b = go (sym (good-iff-text lay t n .1 a) ∙ good-iff-text lay t m .1 b)
+    where
+      go : Good n ≡ Good m → n ≡ m
+      go e = cc
+
+  pub one-place : (k j : ℕ) → Place lay t k → Place lay t j → k ≡ j
+  one-place k j p q = go (sym (bad-iff-place lay t k .1 p) ∙ bad-iff-place lay t j .1 q)
+    where
+      go : Bad k ≡ Bad j → k ≡ j
+      go e = cc

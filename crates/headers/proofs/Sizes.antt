@@ -1,112 +1,75 @@
--- An accepted text is for a panel of 1 to 10 relays, and every row of it has that many columns.
+-- An accepted text is for a panel of 1 to 10 relays, and every row of it has that many columns and fits the layout.
 use Prim.Native.Nat.{ℕ, _+_, _≤_}
-use mathlib.Core.Path.{_≡_, refl, sym, _∙_, ap}
-use mathlib.Core.List.{List, [], _∷_}
-use mathlib.Core.Logic.{⊎-elim}
-use mathlib.Core.Bool.{Bool, true, false, cond, not, false≢true}
-use lib.Dec.{eqb}
-use lib.ListN.{length}
-use borrow.Author.Tests.{eqb-true}
-use Rattle.table.proofs.Basics.{and-l, and-r}
-use Rattle.fields.specs.Texts.{linesOf}
+use mathlib.Core.Path.{_≡_, refl}
+use mathlib.Core.List.{List, [], _∷_, _++_}
+use native.Mathlib.Omega.{arith}
 use Rattle.lines.specs.Lines.{lineOf}
-use Rattle.lines.specs.declared.Kind.{Kind}
-use Rattle.lines.specs.declared.Part.the-variants.{Ins, Outs}
+use Rattle.lines.specs.Bounds.{LineOk}
+use Rattle.lines.specs.declared.Part.the-variants.{Ins}
 use Rattle.lines.specs.declared.Line.{Line}
 use Rattle.lines.specs.declared.Line.the-variants.{Empty, Sized, Typed, Rows, Row, End, Fault}
-use Rattle.headers.specs.Headers.{openOf, readyOf, endAllowed, allowedOf, nextOf, freshState}
-use Rattle.headers.specs.Verdicts.{finishOf, judgeLines, judgeOf}
-use Rattle.headers.specs.declared.State.{State}
-use Rattle.headers.specs.declared.Verdict.the-variants.{Good, Bad}
-use Rattle.headers.proofs.Passing.{allPass, stateAfter, judge-passing, judge-stuck, Stuck, pass-or-stuck}
-use Rattle.headers.proofs.Completing.{sound-passing}
-use Rattle.headers.proofs.PlaceLaws.{good-or-bad}
+use Rattle.lines.proofs.BoundLaws.{line-ok}
+use Rattle.headers.specs.Accepted.{one, isHeader, times, rowsIn, Fits, HeaderLine, RowLine, All, Text}
+use Rattle.headers.specs.declared.Layout.{Layout}
+use Rattle.headers.specs.declared.Header.the-variants.{Size}
 
--- a row has n columns
-abbrev pub OfSize : ℕ → Line → Type 0
-OfSize n Empty = Unit {0}
-OfSize n (Sized p s) = Unit {0}
-OfSize n (Typed t) = Unit {0}
-OfSize n (Rows v) = Unit {0}
-OfSize n (Row m) = m .width ≡ n
-OfSize n End = Unit {0}
-OfSize n Fault = Unit {0}
+size-line : (lay : Layout) (n r t : ℕ) (l : Line) → LineOk l → HeaderLine lay n r l → 1 ≤ one (isHeader (Size Ins) l) + t → (1 ≤ t → (1 ≤ n) × (n ≤ 10)) → (1 ≤ n) × (n ≤ 10)
+size-line lay n r t Empty o p c more = more (omega arith)
+size-line lay n r t (Sized q s) o p c more = (rw (← p) (o .0), rw (← p) (o .1))
+size-line lay n r t (Typed k) o p c more = more (omega arith)
+size-line lay n r t (Rows v) o p c more = more (omega arith)
+size-line lay n r t (Row m) o p c more = absurd p
+size-line lay n r t End o p c more = absurd p
+size-line lay n r t Fault o p c more = absurd p
 
--- every row among lines has n columns
-abbrev pub AllOfSize : ℕ → List (List ℕ) → Type 0
-AllOfSize n [] = Unit {0}
-AllOfSize n (l ∷ ls) = OfSize n (lineOf l) × AllOfSize n ls
+size-top : (lay : Layout) (n r : ℕ) (top : List (List ℕ)) → All (HeaderLine lay n r) top → 1 ≤ times (Size Ins) top → (1 ≤ n) × (n ≤ 10)
+unfolding times
+size-top lay n r [] a c = absurd (omega arith)
+size-top lay n r (l ∷ top) a c = size-line lay n r (times (Size Ins) top) (lineOf l) (line-ok l) (a .0) c (size-top lay n r top (a .1))
 
--- once both sizes are given, the size stays
-ready-next : (kd : Kind) (st : State) (l : Line) (k : ℕ) → readyOf st ≡ true → allowedOf kd st l ≡ true → (readyOf (nextOf st l k) ≡ true) × (nextOf st l k .size ≡ st .size)
-unfolding readyOf
-ready-next kd st Empty k r a = (r, refl)
-ready-next kd st (Sized Ins n) k r a = absurd (false≢true (sym (ap not (and-l (st .ins) (st .outs) r)) ∙ and-l (not (st .ins)) _ (and-r (openOf st) _ a)))
-ready-next kd st (Sized Outs n) k r a = absurd (false≢true (sym (ap not (and-r (st .ins) (st .outs) r)) ∙ and-l (not (st .outs)) _ (and-r (openOf st) _ a)))
-ready-next kd st (Typed t) k r a = (r, refl)
-ready-next kd st (Rows n) k r a = (r, refl)
-ready-next kd st (Row m) k r a = (r, refl)
-ready-next kd st End k r a = (r, refl)
-ready-next kd st Fault k r a = (r, refl)
+pub text-size : (lay : Layout) (n : ℕ) (ls : List (List ℕ)) → Text lay n ls → (1 ≤ n) × (n ≤ 10)
+text-size lay n ls t = size-top lay n _ (t .top) (t .headers) (omega (arith, t .asked (Size Ins) refl))
 
-size-stays : (kd : Kind) (ls : List (List ℕ)) (st : State) (k : ℕ) → readyOf st ≡ true → allPass kd ls st k ≡ true → stateAfter ls st k .size ≡ st .size
-unfolding allPass stateAfter
-size-stays kd [] st k r h = refl
-size-stays kd (l ∷ ls) st k r h =
-    let n = ready-next kd st (lineOf l) k r (and-l (allowedOf kd st (lineOf l)) _ h) in
-    size-stays kd ls (nextOf st (lineOf l) k) (k + 1) (n .0) (and-r (allowedOf kd st (lineOf l)) _ h) ∙ n .1
+-- a row has n columns and fits the layout
+abbrev pub RowFits : Layout → ℕ → Line → Type 0
+RowFits lay n Empty = Unit {0}
+RowFits lay n (Sized p s) = Unit {0}
+RowFits lay n (Typed t) = Unit {0}
+RowFits lay n (Rows v) = Unit {0}
+RowFits lay n (Row m) = Fits lay n m
+RowFits lay n End = Unit {0}
+RowFits lay n Fault = Unit {0}
 
-row-sized : (kd : Kind) (ls : List (List ℕ)) (st : State) (l : Line) (k : ℕ) → allowedOf kd st l ≡ true → allPass kd ls (nextOf st l k) (k + 1) ≡ true
-    → OfSize (stateAfter ls (nextOf st l k) (k + 1) .size) l
-row-sized kd ls st Empty k a h = tt
-row-sized kd ls st (Sized p n) k a h = tt
-row-sized kd ls st (Typed t) k a h = tt
-row-sized kd ls st (Rows n) k a h = tt
-row-sized kd ls st (Row m) k a h =
-    let r = and-r (not (st .ended)) (readyOf st) (and-l (endAllowed st) _ a) in
-    sym (size-stays kd ls (nextOf st (Row m) k) (k + 1) (ready-next kd st (Row m) k r a .0) h
-    ∙ eqb-true (st .size) (m .width) (and-l (eqb (st .size) (m .width)) _ (and-r (endAllowed st) _ a)))
-row-sized kd ls st End k a h = tt
-row-sized kd ls st Fault k a h = tt
+header-fits : (lay : Layout) (n r : ℕ) (l : Line) → HeaderLine lay n r l → RowFits lay n l
+header-fits lay n r Empty p = tt
+header-fits lay n r (Sized q s) p = tt
+header-fits lay n r (Typed t) p = tt
+header-fits lay n r (Rows v) p = tt
+header-fits lay n r (Row m) p = absurd p
+header-fits lay n r End p = tt
+header-fits lay n r Fault p = tt
 
-rows-sized : (kd : Kind) (ls : List (List ℕ)) (st : State) (k : ℕ) → allPass kd ls st k ≡ true → AllOfSize (stateAfter ls st k .size) ls
-unfolding allPass stateAfter
-rows-sized kd [] st k h = tt
-rows-sized kd (l ∷ ls) st k h =
-    let a = and-l (allowedOf kd st (lineOf l)) _ h in
-    let r = and-r (allowedOf kd st (lineOf l)) _ h in
-    (row-sized kd ls st (lineOf l) k a r, rows-sized kd ls (nextOf st (lineOf l) k) (k + 1) r)
+row-fits : (lay : Layout) (n : ℕ) (l : Line) → RowLine lay n l → RowFits lay n l
+row-fits lay n Empty p = tt
+row-fits lay n (Sized q s) p = tt
+row-fits lay n (Typed t) p = tt
+row-fits lay n (Rows v) p = tt
+row-fits lay n (Row m) p = p
+row-fits lay n End p = tt
+row-fits lay n Fault p = tt
 
-module _ (kd : Kind) (t : List ℕ) (n : ℕ) (h : judgeOf kd t ≡ Good n) where
-  abbrev last : State
-  last = stateAfter (linesOf t) freshState 1
+all-map : (P Q : Line → Type 0) → ((l : Line) → P l → Q l) → (ls : List (List ℕ)) → All P ls → All Q ls
+all-map P Q f [] a = tt
+all-map P Q f (l ∷ ls) a = (f (lineOf l) (a .0), all-map P Q f ls (a .1))
 
-  good-passes : allPass kd (linesOf t) freshState 1 ≡ true
-  unfolding judgeOf
-  good-passes =
-      ⊎-elim (λ p. p)
-      (λ (s : Stuck kd (linesOf t) freshState 1). absurd (good-or-bad n (length (s .before) + 1)
-      (sym h ∙ ap (λ (x : List (List ℕ)). judgeLines kd x freshState 1) (s .lines) ∙ judge-stuck kd (s .before) (s .line) (s .after) freshState 1 (s .passed) (s .stopped))))
-      (pass-or-stuck kd (linesOf t) freshState 1)
+all-append : (P : Line → Type 0) (ls ms : List (List ℕ)) → All P ls → All P ms → All P (ls ++ ms)
+all-append P [] ms a b = b
+all-append P (l ∷ ls) ms a b = (a .0, all-append P ls ms (a .1) b)
 
-  good-last : (last .ended ≡ true) × (last .size ≡ n)
-  unfolding judgeOf finishOf
-  good-last = go (last .ended) refl (last .counted) (eqb (last .want) (last .rows)) (sym h ∙ judge-passing kd (linesOf t) freshState 1 good-passes)
-    where
-      go : (e : Bool) → last .ended ≡ e → (c w : Bool)
-          → Good n ≡ cond e (cond c (cond w (Good (last .size)) (Bad (last .place))) (Good (last .size))) (Bad (length (linesOf t) + 1))
-          → (last .ended ≡ true) × (last .size ≡ n)
-      go false e c w v = absurd (good-or-bad n (length (linesOf t) + 1) v)
-      go true e false w v = (e, cc)
-      go true e true true v = (e, cc)
-      go true e true false v = absurd (good-or-bad n (last .place) v)
-
-  -- an accepted text is for a panel of 1 to 10 relays
-  pub good-size : (1 ≤ n) × (n ≤ 10)
-  good-size =
-      let s = sound-passing kd (linesOf t) good-passes in
-      (rw (good-last .1) at (s .in-sized (s .closed (good-last .0) .0)), rw (good-last .1) at (s .small))
-
-  -- and every row of it has that many columns
-  pub good-rows : AllOfSize n (linesOf t)
-  good-rows = rw (good-last .1) at (rows-sized kd (linesOf t) freshState 1 good-passes)
+-- every row of a text has n columns and fits the layout
+pub text-rows : (lay : Layout) (n : ℕ) (ls : List (List ℕ)) → Text lay n ls → All (RowFits lay n) ls
+text-rows lay n ls t =
+    rw (t .lines)
+    (all-append (RowFits lay n) (t .top) (t .middle ++ t .mark ∷ t .rest) (all-map (HeaderLine lay n (rowsIn (t .middle))) (RowFits lay n) (header-fits lay n (rowsIn (t .middle))) (t .top) (t .headers))
+    (all-append (RowFits lay n) (t .middle) (t .mark ∷ t .rest) (all-map (RowLine lay n) (RowFits lay n) (row-fits lay n) (t .middle) (t .rows))
+    (rw (t .ends) tt, all-map (λ l. l ≡ Empty) (RowFits lay n) (λ l e. rw e tt) (t .rest) (t .empty))))

@@ -10,7 +10,7 @@ use Rattle.fields.specs.Texts.{linesOf, pastOf}
 use Rattle.fields.specs.declared.Stretch.the-variants.{Whole}
 use Rattle.fields.proofs.TextLaws.{line-at, lines-few}
 use Rattle.lines.specs.Lines.{lineOf, keepLine}
-use Rattle.lines.specs.declared.Kind.{Kind}
+use Rattle.headers.specs.declared.Layout.{Layout}
 use Rattle.lines.specs.declared.Line.{Line}
 use Rattle.headers.specs.Headers.{allowedOf, nextOf, freshState}
 use Rattle.headers.specs.Verdicts.{finishOf, judgeOf}
@@ -19,26 +19,26 @@ use Rattle.headers.specs.declared.Verdict.{Verdict}
 use Rattle.headers.specs.declared.Verdict.the-variants.{Bad}
 use Rattle.headers.proofs.Kept.{judgeKept, judge-kept}
 
-pub turns-start : (kd : Kind) (text : List ℕ) → length text < 2 ^ 63 → judgeKept kd (linesOf text) freshState 1 ≡ judgeOf kd text
+pub turns-start : (lay : Layout) (text : List ℕ) → length text < 2 ^ 63 → judgeKept lay (linesOf text) freshState 1 ≡ judgeOf lay text
 unfolding judgeOf
-turns-start kd text h = judge-kept kd (linesOf text) freshState 1 (omega (arith, lines-few text))
+turns-start lay text h = judge-kept lay (linesOf text) freshState 1 (omega (arith, lines-few text))
 
 -- over what the calls of one turn answer
-module _ (kd : Kind) (text : List ℕ) (at e : ℕ) (h : at < length text) (he : e ≡ at + run Whole (drop at text)) (st : State) (k : ℕ) (v : Verdict)
-    (inv : judgeKept kd (linesOf (drop at text)) st k ≡ v)
-    (l : Line) (hl : l ≡ keepLine (lineOf (take (e - at) (drop at text)))) (a : Bool) (ha : a ≡ allowedOf kd st l) where
-  line-allowed : allowedOf kd st (keepLine (lineOf (take (e - at) (drop at text)))) ≡ a
-  line-allowed = sym (ha ∙ ap (λ (x : Line). allowedOf kd st x) hl)
+module _ (lay : Layout) (text : List ℕ) (at e : ℕ) (h : at < length text) (he : e ≡ at + run Whole (drop at text)) (st : State) (k : ℕ) (v : Verdict)
+    (inv : judgeKept lay (linesOf (drop at text)) st k ≡ v)
+    (l : Line) (hl : l ≡ keepLine (lineOf (take (e - at) (drop at text)))) (a : Bool) (ha : a ≡ allowedOf lay st l) where
+  line-allowed : allowedOf lay st (keepLine (lineOf (take (e - at) (drop at text)))) ≡ a
+  line-allowed = sym (ha ∙ ap (λ (x : Line). allowedOf lay st x) hl)
 
   pub turn-bad : a ≡ false → Bad k ≡ v
   unfolding judgeKept
   turn-bad p = rw (line-at text at e h he, line-allowed ∙ p) at inv
 
   pub turn-go : a ≡ true → (st′ : State) (at′ : ℕ) → st′ ≡ nextOf st l k → at′ ≡ pastOf e (length text)
-      → judgeKept kd (linesOf (drop at′ text)) st′ (k + 1) ≡ v
+      → judgeKept lay (linesOf (drop at′ text)) st′ (k + 1) ≡ v
   unfolding judgeKept
   turn-go p st′ at′ s t = rw (s, t, hl) (rw (line-at text at e h he, line-allowed ∙ p) at inv)
 
-pub turns-end : (kd : Kind) (text : List ℕ) (at : ℕ) → length text ≤ at → (st : State) (k : ℕ) (v : Verdict) → judgeKept kd (linesOf (drop at text)) st k ≡ v → finishOf st k ≡ v
+pub turns-end : (lay : Layout) (text : List ℕ) (at : ℕ) → length text ≤ at → (st : State) (k : ℕ) (v : Verdict) → judgeKept lay (linesOf (drop at text)) st k ≡ v → finishOf st k ≡ v
 unfolding judgeKept linesOf
-turns-end kd text at h st k v inv = rw (drop-of-length-le text h) at inv
+turns-end lay text at h st k v inv = rw (drop-of-length-le text h) at inv

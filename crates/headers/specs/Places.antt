@@ -7,15 +7,10 @@ use mathlib.Core.Bool.{Bool, true, false, _||_}
 use lib.ListN.{length}
 use Rattle.fields.specs.Texts.{linesOf}
 use Rattle.lines.specs.Lines.{lineOf}
-use Rattle.lines.specs.declared.Kind.{Kind}
 use Rattle.lines.specs.declared.Line.{Line}
 use Rattle.lines.specs.declared.Line.the-variants.{Empty, Sized, Typed, Rows, Row, End, Fault}
-use Rattle.headers.specs.Verdicts.{judgeOf}
-use Rattle.headers.specs.declared.Verdict.the-variants.{Good}
-
--- a text of this kind is accepted
-abbrev pub Accepted : Kind → List ℕ → Type 0
-Accepted kd t = (n : ℕ) × (judgeOf kd t ≡ Good n)
+use Rattle.headers.specs.Accepted.{rowsIn, Accepted}
+use Rattle.headers.specs.declared.Layout.{Layout}
 
 -- a line `.p k`
 abbrev pub Counts : List ℕ → Type 0
@@ -29,28 +24,14 @@ Alike (l ∷ ls) [] = ⊥
 Alike (l ∷ ls) (m ∷ ms) = ((l ≡ m) ⊎ (Counts l × Counts m)) × Alike ls ms
 
 -- lines begin an accepted text, the number after `.p` left aside
-pub record Begins (kd : Kind) (ls : List (List ℕ)) : Type 0 where
+pub record Begins (lay : Layout) (ls : List (List ℕ)) : Type 0 where
   pub text : List ℕ
   pub first : List (List ℕ)
   pub others : List (List ℕ)
   pub lines : linesOf text ≡ first ++ others
   pub alike : Alike ls first
-  pub accepted : Accepted kd text
-
--- 1 for a row, 0 for any other line
-abbrev pub isRow : Line → ℕ
-isRow Empty = 0
-isRow (Sized p n) = 0
-isRow (Typed t) = 0
-isRow (Rows v) = 0
-isRow (Row m) = 1
-isRow End = 0
-isRow Fault = 0
-
--- the number of rows among lines
-abbrev pub rowsIn : List (List ℕ) → ℕ
-rowsIn [] = 0
-rowsIn (l ∷ ls) = isRow (lineOf l) + rowsIn ls
+  pub size : ℕ
+  pub accepted : Accepted lay size text
 
 -- a line is the end mark
 abbrev pub isEnd : Line → Bool
@@ -63,28 +44,28 @@ isEnd End = true
 isEnd Fault = false
 
 -- the end mark stands among lines
-abbrev pub endIn : List (List ℕ) → Bool
+unfoldable pub endIn : List (List ℕ) → Bool
 endIn [] = false
 endIn (l ∷ ls) = isEnd (lineOf l) || endIn ls
 
 -- line number k is faulty: the lines before it begin an accepted text, and with it they begin none
-pub record FaultyLine (kd : Kind) (t : List ℕ) (k : ℕ) : Type 0 where
+pub record FaultyLine (lay : Layout) (t : List ℕ) (k : ℕ) : Type 0 where
   pub before : List (List ℕ)
   pub line : List ℕ
   pub after : List (List ℕ)
   pub lines : linesOf t ≡ before ++ line ∷ after
   pub number : k ≡ length before + 1
-  pub begins : Begins kd before
-  pub begins-no-more : Begins kd (before ++ line ∷ []) → ⊥
+  pub begins : Begins lay before
+  pub begins-no-more : Begins lay (before ++ line ∷ []) → ⊥
 
 -- every line passes but the end mark is missing: k is the number after the last line
-pub record EndMissing (kd : Kind) (t : List ℕ) (k : ℕ) : Type 0 where
-  pub begins : Begins kd (linesOf t)
+pub record EndMissing (lay : Layout) (t : List ℕ) (k : ℕ) : Type 0 where
+  pub begins : Begins lay (linesOf t)
   pub endless : endIn (linesOf t) ≡ false
   pub number : k ≡ length (linesOf t) + 1
 
 -- the text has no other fault, and the number after `.p`, of any length, is not the number of rows: k is its line
-pub record WrongCount (kd : Kind) (t : List ℕ) (k : ℕ) : Type 0 where
+pub record WrongCount (lay : Layout) (t : List ℕ) (k : ℕ) : Type 0 where
   pub before : List (List ℕ)
   pub line : List ℕ
   pub after : List (List ℕ)
@@ -92,10 +73,10 @@ pub record WrongCount (kd : Kind) (t : List ℕ) (k : ℕ) : Type 0 where
   pub lines : linesOf t ≡ before ++ line ∷ after
   pub number : k ≡ length before + 1
   pub counts : lineOf line ≡ Rows count
-  pub begins : Begins kd (linesOf t)
+  pub begins : Begins lay (linesOf t)
   pub ended : endIn (linesOf t) ≡ true
   pub wrong : count ≡ rowsIn (linesOf t) → ⊥
 
 -- k is the place of a fault
-abbrev pub Place : Kind → List ℕ → ℕ → Type 0
-Place kd t k = FaultyLine kd t k ⊎ (EndMissing kd t k ⊎ WrongCount kd t k)
+abbrev pub Place : Layout → List ℕ → ℕ → Type 0
+Place lay t k = FaultyLine lay t k ⊎ (EndMissing lay t k ⊎ WrongCount lay t k)

@@ -4,9 +4,8 @@ use mathlib.Core.List.{List, [], _∷_}
 use mathlib.Core.Bool.{cond}
 use lib.Dec.{eqb}
 use Rattle.fields.specs.Texts.{linesOf}
-use Rattle.lines.specs.Lines.{lineOf}
-use Rattle.lines.specs.declared.Kind.{Kind}
-use Rattle.headers.specs.Headers.{allowedOf, nextOf, freshState}
+use Rattle.headers.specs.Headers.{allowedAt, nextAt, freshState}
+use Rattle.headers.specs.declared.Layout.{Layout}
 use Rattle.headers.specs.declared.State.{State}
 use Rattle.headers.specs.declared.Verdict.{Verdict}
 use Rattle.headers.specs.declared.Verdict.the-variants.{Good, Bad}
@@ -14,13 +13,13 @@ use Rattle.headers.specs.declared.Verdict.the-variants.{Good, Bad}
 -- at the end of the text, k being the number after the last line: the end mark is required, and `.p` is the number of rows
 unfoldable pub finishOf : State → ℕ → Verdict
 finishOf st k =
-    cond (st .ended) (cond (st .counted) (cond (eqb (st .want) (st .rows)) (Good (st .size)) (Bad (st .place))) (Good (st .size))) (Bad k)
+    cond (st .ended) (cond (st .seen .count) (cond (eqb (st .want) (st .rows)) (Good (st .size)) (Bad (st .place))) (Good (st .size))) (Bad k)
 
 -- the lines ls, numbered from k, after lines that led to a state: the first that is not allowed is faulty
-unfoldable pub judgeLines : Kind → List (List ℕ) → State → ℕ → Verdict
-judgeLines kd [] st k = finishOf st k
-judgeLines kd (l ∷ ls) st k = cond (allowedOf kd st (lineOf l)) (judgeLines kd ls (nextOf st (lineOf l) k) (k + 1)) (Bad k)
+unfoldable pub judgeLines : Layout → List (List ℕ) → State → ℕ → Verdict
+judgeLines lay [] st k = finishOf st k
+judgeLines lay (l ∷ ls) st k = cond (allowedAt lay st l) (judgeLines lay ls (nextAt st l k) (k + 1)) (Bad k)
 
--- the verdict on a text of a kind
-unfoldable pub judgeOf : Kind → List ℕ → Verdict
-judgeOf kd text = judgeLines kd (linesOf text) freshState 1
+-- the verdict on a text of a layout
+unfoldable pub judgeOf : Layout → List ℕ → Verdict
+judgeOf lay text = judgeLines lay (linesOf text) freshState 1

@@ -1,21 +1,46 @@
-// Which lines may follow which in a text of a kind, and where its first fault is.
+// Which lines may follow which in a text of a layout, and where its first fault is.
 use lines::Kind;
 use lines::Line;
 use lines::Masks;
 use lines::Part;
 ghost use mathlib.Core.Path.{_≡_};
+ghost use mathlib.Core.Bool.{_||_};
 ghost use Prim.Native.Nat.{_^_, _<_};
-ghost use Rattle.headers.specs.Headers.{openOf, fitsOf, hasOf, sameKind, rowFits, readyOf, sizeAllowed, typeAllowed, countAllowed, rowAllowed, endAllowed, allowedOf, withPart, nextOf};
+ghost use lib.Dec.{eqb};
+ghost use Rattle.headers.specs.Layouts.{recording, asks};
+ghost use Rattle.headers.specs.Headers.{hasHeader, lacks, readyOf, sameKind, onlyOn, rowFits, openOf, fitsOf, headerAllowed, rowAllowed, endAllowed, allowedOf, withHeader, nextOf};
 ghost use Rattle.headers.specs.Verdicts.{finishOf, judgeOf};
 
-// What is known after some lines: the size, 0 where not given yet; which headers stood there; the number of `.p` and its line;
-// how many rows; whether the end mark stood there.
-pub struct State {
-    pub size: u32,
+// What is asked of a text: the word of its type line, and whether that line is required; whether `-` may stand in inputs and in
+// outputs; whether exactly one output of a row is `1`.
+pub struct Layout {
+    pub kind: Kind,
+    pub typed: bool,
+    pub dashes: bool,
+    pub unread: bool,
+    pub single: bool,
+}
+
+// A header: `.i` or `.o`, `.type`, `.p`.
+pub enum Header {
+    Size(Part),
+    TypeWord,
+    Count,
+}
+
+// Which headers stood there.
+pub struct Seen {
     pub ins: bool,
     pub outs: bool,
-    pub typed: bool,
-    pub counted: bool,
+    pub word: bool,
+    pub count: bool,
+}
+
+// What is known after some lines: which headers stood there; the size, 0 where not given yet; the number of `.p` and its line;
+// how many rows; whether the end mark stood there.
+pub struct State {
+    pub seen: Seen,
+    pub size: u32,
     pub want: u64,
     pub place: usize,
     pub rows: u64,
@@ -26,6 +51,19 @@ pub struct State {
 pub enum Verdict {
     Good(u32),
     Bad(usize),
+}
+
+// What is asked of a recording.
+pub fn recording_layout() -> Layout
+    ensures { λ r. ⌜ r ≡ recording ⌝ }
+{
+    Layout {
+        kind: Kind::Recording,
+        typed: false,
+        dashes: true,
+        unread: false,
+        single: false,
+    }
 }
 
 // Headers may stand: no row and no end mark yet.
@@ -48,13 +86,53 @@ fn fits(size: u32, n: u32) -> bool
     size == n
 }
 
-fn has(st: State, p: Part) -> bool
-    ensures { λ r. ⌜ r ≡ hasOf st p ⌝ }
+fn has_header(s: Seen, h: Header) -> bool
+    ensures { λ r. ⌜ r ≡ hasHeader s h ⌝ }
 {
-    match p {
-        Part::Ins => st.ins,
-        Part::Outs => st.outs,
+    match h {
+        Header::Size(p) => match p {
+            Part::Ins => s.ins,
+            Part::Outs => s.outs,
+        },
+        Header::TypeWord => s.word,
+        Header::Count => s.count,
     }
+}
+
+fn asks_header(lay: Layout, h: Header) -> bool
+    ensures { λ r. ⌜ r ≡ asks lay h ⌝ }
+{
+    match h {
+        Header::Size(_) => true,
+        Header::TypeWord => lay.typed,
+        Header::Count => false,
+    }
+}
+
+// A header must stand before the first row and the end mark, and does not yet.
+fn lacks_header(lay: Layout, s: Seen, h: Header) -> bool
+    ensures { λ r. ⌜ r ≡ lacks lay s h ⌝ }
+{
+    if has_header(s, h) {
+        return false;
+    }
+    asks_header(lay, h)
+}
+
+// No header is missing.
+fn is_ready(lay: Layout, s: Seen) -> bool
+    ensures { λ r. ⌜ r ≡ readyOf lay s ⌝ }
+{
+    if lacks_header(lay, s, Header::Size(Part::Ins)) {
+        return false;
+    }
+    if lacks_header(lay, s, Header::Size(Part::Outs)) {
+        return false;
+    }
+    if lacks_header(lay, s, Header::TypeWord) {
+        return false;
+    }
+    !lacks_header(lay, s, Header::Count)
 }
 
 fn same_kind(a: Kind, b: Kind) -> bool
@@ -72,110 +150,122 @@ fn same_kind(a: Kind, b: Kind) -> bool
     }
 }
 
-// What a row of a text of this kind may hold.
-fn row_fits(k: Kind, m: Masks) -> bool
-    ensures { λ r. ⌜ r ≡ rowFits k m ⌝ }
+// The relay whose bit is the only one on; 10 if there is none.
+fn only_on(x: u32) -> u32
+    ensures { λ r. ⌜ r ≡ onlyOn x ⌝ }
 {
-    match k {
-        Kind::Recording => m.unread == 0,
-        Kind::Sheet => m.unread == 0,
+    let mut h: u32 = 0;
+    while h < 10 {
+        if x == panel::power(h) {
+            return h;
+        }
+        h += 1;
     }
+    h
 }
 
-// All the headers stood there that must stand before the first row and the end mark.
-fn is_ready(st: State) -> bool
-    ensures { λ r. ⌜ r ≡ readyOf st ⌝ }
+// A test passes, or nothing of the kind is there.
+fn free_of(allowed: bool, dashes: u32) -> bool
+    ensures { λ r. ⌜ r ≡ (allowed || eqb dashes 0) ⌝ }
 {
-    if !st.ins {
+    if allowed {
+        return true;
+    }
+    dashes == 0
+}
+
+// What a row of a text of this layout may hold.
+fn row_fits(lay: Layout, m: Masks) -> bool
+    ensures { λ r. ⌜ r ≡ rowFits lay m ⌝ }
+{
+    if !free_of(lay.dashes, m.free) {
         return false;
     }
-    st.outs
+    if !free_of(lay.unread, m.unread) {
+        return false;
+    }
+    if !lay.single {
+        return true;
+    }
+    only_on(m.next) < 10
 }
 
-// `.i n` or `.o n` may stand here.
-fn size_allowed(st: State, p: Part, n: u32) -> bool
-    ensures { λ r. ⌜ r ≡ sizeAllowed st p n ⌝ }
+// A header may stand here, if it fits.
+fn header_allowed(st: State, h: Header, fits: bool) -> bool
+    ensures { λ r. ⌜ r ≡ headerAllowed st h fits ⌝ }
 {
     if !is_open(st) {
         return false;
     }
-    if has(st, p) {
+    let s = st.seen;
+    if has_header(s, h) {
         return false;
     }
-    fits(st.size, n)
+    fits
 }
 
-// `.type t` may stand here.
-fn type_allowed(k: Kind, st: State, t: Kind) -> bool
-    ensures { λ r. ⌜ r ≡ typeAllowed k st t ⌝ }
+// The end mark, or a row, may stand here.
+fn end_allowed(lay: Layout, st: State) -> bool
+    ensures { λ r. ⌜ r ≡ endAllowed lay st ⌝ }
 {
-    if !is_open(st) {
-        return false;
+    if st.ended {
+        return false; // only blank lines and comments follow the end mark
     }
-    if st.typed {
-        return false;
-    }
-    same_kind(k, t)
+    let s = st.seen;
+    is_ready(lay, s)
 }
 
-// `.p` may stand here.
-fn count_allowed(st: State) -> bool
-    ensures { λ r. ⌜ r ≡ countAllowed st ⌝ }
+fn row_allowed(lay: Layout, st: State, m: Masks) -> bool
+    ensures { λ r. ⌜ r ≡ rowAllowed lay st m ⌝ }
 {
-    if st.counted {
-        return false;
-    }
-    is_open(st)
-}
-
-fn row_allowed(k: Kind, st: State, m: Masks) -> bool
-    ensures { λ r. ⌜ r ≡ rowAllowed k st m ⌝ }
-{
-    if !end_allowed(st) {
+    if !end_allowed(lay, st) {
         return false;
     }
     if st.size != m.width {
         return false;
     }
-    row_fits(k, m)
-}
-
-// A row, or the end mark, may stand here.
-fn end_allowed(st: State) -> bool
-    ensures { λ r. ⌜ r ≡ endAllowed st ⌝ }
-{
-    if st.ended {
-        return false;
-    }
-    is_ready(st)
+    row_fits(lay, m)
 }
 
 // What may stand where the lines before led to a state.
-fn allowed(k: Kind, st: State, l: Line) -> bool
-    ensures { λ r. ⌜ r ≡ allowedOf k st l ⌝ }
+fn allowed(lay: Layout, st: State, l: Line) -> bool
+    ensures { λ r. ⌜ r ≡ allowedOf lay st l ⌝ }
 {
     match l {
         Line::Empty => true,
-        Line::Sized(p, n) => size_allowed(st, p, n),
-        Line::Typed(t) => type_allowed(k, st, t),
-        Line::Rows(_) => count_allowed(st),
-        Line::Row(m) => row_allowed(k, st, m),
-        Line::End => end_allowed(st),
+        Line::Sized(p, n) => header_allowed(st, Header::Size(p), fits(st.size, n)),
+        Line::Typed(t) => {
+            let k = lay.kind;
+            header_allowed(st, Header::TypeWord, same_kind(k, t))
+        }
+        Line::Rows(_) => header_allowed(st, Header::Count, true),
+        Line::Row(m) => row_allowed(lay, st, m),
+        Line::End => end_allowed(lay, st),
         Line::Fault => false,
     }
 }
 
-fn with_part(st: State, p: Part) -> State
-    ensures { λ r. ⌜ r ≡ withPart st p ⌝ }
+fn with_header(s: Seen, h: Header) -> Seen
+    ensures { λ r. ⌜ r ≡ withHeader s h ⌝ }
 {
-    let mut t = st;
-    match p {
-        Part::Ins => {
-            t.ins = true;
+    let mut t = s;
+    match h {
+        Header::Size(p) => match p {
+            Part::Ins => {
+                t.ins = true;
+                t
+            }
+            Part::Outs => {
+                t.outs = true;
+                t
+            }
+        },
+        Header::TypeWord => {
+            t.word = true;
             t
         }
-        Part::Outs => {
-            t.outs = true;
+        Header::Count => {
+            t.count = true;
             t
         }
     }
@@ -187,18 +277,23 @@ fn next(st: State, l: Line, k: usize) -> State
     ensures { λ r. ⌜ r ≡ nextOf st l k ⌝ }
 {
     let mut t = st;
+    let s = st.seen;
     match l {
         Line::Empty => t,
         Line::Sized(p, n) => {
+            let w = with_header(s, Header::Size(p));
+            t.seen = w;
             t.size = n;
-            with_part(t, p)
+            t
         }
         Line::Typed(_) => {
-            t.typed = true;
+            let w = with_header(s, Header::TypeWord);
+            t.seen = w;
             t
         }
         Line::Rows(n) => {
-            t.counted = true;
+            let w = with_header(s, Header::Count);
+            t.seen = w;
             t.want = n;
             t.place = k;
             t
@@ -222,7 +317,7 @@ fn finish(st: State, k: usize) -> Verdict
     if !st.ended {
         return Verdict::Bad(k);
     }
-    if !st.counted {
+    if !st.seen.count {
         return Verdict::Good(st.size);
     }
     if st.want == st.rows {
@@ -232,15 +327,17 @@ fn finish(st: State, k: usize) -> Verdict
     }
 }
 
-pub fn judge(kind: Kind, text: &[u8]) -> Verdict
-    ensures { λ r. ⌜ r ≡ judgeOf kind (now (text .entry)) ⌝ }
+pub fn judge(lay: Layout, text: &[u8]) -> Verdict
+    ensures { λ r. ⌜ r ≡ judgeOf lay (now (text .entry)) ⌝ }
 {
     let mut st = State {
+        seen: Seen {
+            ins: false,
+            outs: false,
+            word: false,
+            count: false,
+        },
         size: 0,
-        ins: false,
-        outs: false,
-        typed: false,
-        counted: false,
         want: 0,
         place: 0,
         rows: 0,
@@ -251,7 +348,7 @@ pub fn judge(kind: Kind, text: &[u8]) -> Verdict
     while at < text.len() {
         let e = fields::line_end(text, at);
         let l = lines::scan_line(&text[at..e]);
-        if !allowed(kind, st, l) {
+        if !allowed(lay, st, l) {
             return Verdict::Bad(k);
         }
         st = next(st, l, k);

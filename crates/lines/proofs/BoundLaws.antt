@@ -79,8 +79,8 @@ row-line-ok w v o = go (eqb (length w) (length v)) refl (leb (length w) 10) refl
         row-ok (cubeOf w) (cubeOf v) (length w) o (leb-true (length w) 10 f) (cube-under w) (rw q at (cube-under v))
 
 start-ok : (m : Mark) (w : List ℕ) (fs : List (List ℕ)) → 1 ≤ length w → LineOk (startLine m w fs)
-start-ok (Digit d) w fs o = row-line-ok w (onlyOf fs) o
-start-ok Dash w fs o = row-line-ok w (onlyOf fs) o
+start-ok (Digit d) w fs o = row-line-ok w _ o
+start-ok Dash w fs o = row-line-ok w _ o
 start-ok Dot w fs o = key-ok (keyOf w) fs
 start-ok Space w fs o = tt
 start-ok Hash w fs o = tt

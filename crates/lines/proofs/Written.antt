@@ -1,4 +1,4 @@
--- What lines say that are written by rule: `.i n`, `.o n`, `.p k` and `.e`, with one space and a decimal number.
+-- What lines say that are written by rule: `.i n`, `.o n`, `.type w`, `.p k` and `.e`, with one space and a decimal number.
 use Prim.Native.Nat.{ℕ, _≤_}
 use mathlib.Core.Path.{_≡_, refl, _∙_, ap}
 use mathlib.Core.List.{List, [], _∷_, _++_, append-nil, append-assoc}
@@ -14,11 +14,13 @@ use Rattle.fields.specs.declared.Stretch.the-variants.{Body}
 use Rattle.fields.specs.declared.Number.{Number}
 use Rattle.fields.proofs.DecimalLaws.{AllDigits, decimal-all-digits, decimal-length, number-decimal}
 use Rattle.fields.proofs.JoinLaws.{NoFeed, digits-no-feed}
-use Rattle.lines.specs.Lines.{keyOf, keyLine, sizedOf, countOf, classOf, ofFields, lineOf}
+use Rattle.lines.specs.Lines.{keyOf, keyLine, sizedOf, typedOf, countOf, classOf, ofFields, lineOf}
 use Rattle.lines.specs.declared.Part.{Part}
 use Rattle.lines.specs.declared.Part.the-variants.{Ins, Outs}
+use Rattle.lines.specs.declared.Kind.{Kind}
+use Rattle.lines.specs.declared.Kind.the-variants.{Recording, Sheet}
 use Rattle.lines.specs.declared.Key.the-variants.{Size, Count}
-use Rattle.lines.specs.declared.Line.the-variants.{Sized, Rows, End}
+use Rattle.lines.specs.declared.Line.the-variants.{Sized, Typed, Rows, End}
 
 digits-body : (s : List ℕ) → AllDigits s → take (run Body s) s ≡ s
 unfolding run
@@ -77,6 +79,21 @@ pub size-no-feed : (p : Part) (n : ℕ) → NoFeed (sizeText p n)
 unfolding markOf
 size-no-feed Ins n = keyed-no-feed (decimal n) (decimal-all-digits n) (decimal-length n) 105 (refl, tt)
 size-no-feed Outs n = keyed-no-feed (decimal n) (decimal-all-digits n) (decimal-length n) 111 (refl, tt)
+
+-- `.type fr` or `.type f`
+abbrev pub typeText : Kind → List ℕ
+typeText Recording = 46 ∷ 116 ∷ 121 ∷ 112 ∷ 101 ∷ 32 ∷ 102 ∷ 114 ∷ []
+typeText Sheet = 46 ∷ 116 ∷ 121 ∷ 112 ∷ 101 ∷ 32 ∷ 102 ∷ []
+
+pub type-text : (t : Kind) → lineOf (typeText t) ≡ Typed t
+unfolding lineOf body run markOf fieldsIn fieldsFrom ofFields classOf keyOf same typedOf
+type-text Recording = refl
+type-text Sheet = refl
+
+pub type-no-feed : (t : Kind) → NoFeed (typeText t)
+unfolding markOf
+type-no-feed Recording = (refl, (refl, (refl, (refl, (refl, (refl, (refl, (refl, tt))))))))
+type-no-feed Sheet = (refl, (refl, (refl, (refl, (refl, (refl, (refl, tt)))))))
 
 -- `.p k`
 abbrev pub countText : ℕ → List ℕ

@@ -16,7 +16,7 @@ use Rattle.panel.specs.Transitions.{validTransition}
 use Rattle.prime.specs.Books.{booked}
 use Rattle.prime.specs.Sheets.{freshSheet, takeSheet}
 use Rattle.fields.proofs.TextLaws.{lines-few}
-use Rattle.lines.specs.declared.Kind.the-variants.{Recording}
+use Rattle.headers.specs.Layouts.{recording}
 use Rattle.headers.specs.Verdicts.{judgeOf}
 use Rattle.headers.specs.Places.{Place}
 use Rattle.headers.specs.declared.Verdict.{Verdict}
@@ -36,24 +36,24 @@ use Rattle.program.proofs.RunLaws.{count-within}
 -- ---- reading
 
 -- a fault is on a line of the text, or on the line after the last
-place-small : (t : List ℕ) (k : ℕ) → judgeOf Recording t ≡ Bad k → k ≤ length t + 1
-place-small t k e = go (bad-iff-place Recording t k .0 e)
+place-small : (t : List ℕ) (k : ℕ) → judgeOf recording t ≡ Bad k → k ≤ length t + 1
+place-small t k e = go (bad-iff-place recording t k .0 e)
   where
-    go : Place Recording t k → k ≤ length t + 1
+    go : Place recording t k → k ≤ length t + 1
     go (inl f) = omega (arith, f .number, lines-few t, ap length (f .lines), length-append (f .before) (f .line ∷ f .after))
     go (inr (inl f)) = omega (arith, f .number, lines-few t)
     go (inr (inr f)) = omega (arith, f .number, lines-few t, ap length (f .lines), length-append (f .before) (f .line ∷ f .after))
 
 read-small : (t : List ℕ) (room : ℕ) → (readAnswer t room .code ≤ 11) × (readAnswer t room .place ≤ length t + 1)
 unfolding readAnswer
-read-small t room = go (judgeOf Recording t) refl
+read-small t room = go (judgeOf recording t) refl
   where
     good : (n k : ℕ) (b : Bool) → ((cond b (record { code = 0; place = 0; n = n; count = k }) (refusal 8 0)) .code ≤ 11)
         × ((cond b (record { code = 0; place = 0; n = n; count = k }) (refusal 8 0)) .place ≤ length t + 1)
     good n k true = (omega arith, omega arith)
     good n k false = (omega arith, omega arith)
 
-    go : (v : Verdict) → judgeOf Recording t ≡ v → (answerFor v (textWords t) room .code ≤ 11) × (answerFor v (textWords t) room .place ≤ length t + 1)
+    go : (v : Verdict) → judgeOf recording t ≡ v → (answerFor v (textWords t) room .code ≤ 11) × (answerFor v (textWords t) room .place ≤ length t + 1)
     go (Bad p) e = (omega arith, place-small t p e)
     go (Good n) e = good n (length (textWords t)) (leb (length (textWords t)) room)
 

@@ -11,7 +11,7 @@ use borrow.Author.Tests.{le-ltb, lt-ltb, leb-true, ltb-false}
 use Rattle.table.specs.Surgery.{filled}
 use Rattle.answers.specs.Answers.{refuse, wordsIf}
 use Rattle.answers.specs.declared.Answer.{Answer}
-use Rattle.lines.specs.declared.Kind.the-variants.{Recording}
+use Rattle.headers.specs.Layouts.{recording}
 use Rattle.headers.specs.Verdicts.{judgeOf}
 use Rattle.headers.specs.declared.Verdict.{Verdict}
 use Rattle.headers.specs.declared.Verdict.the-variants.{Good, Bad}
@@ -124,7 +124,7 @@ module _ (n : ℕ) (ts book sheet out book′ sheet′ : List ℕ) (a : Answer) 
 -- the words read lie in the list
 pub count-within : (t : List ℕ) (room : ℕ) → readAnswer t room .count ≤ room
 unfolding readAnswer
-count-within t room = go (judgeOf Recording t)
+count-within t room = go (judgeOf recording t)
   where
     many : (ws : List ℕ) (n : ℕ) (b : Bool) → leb (length ws) room ≡ b
         → (cond b (record { code = 0; place = 0; n = n; count = length ws }) (refusal 8 0)) .count ≤ room

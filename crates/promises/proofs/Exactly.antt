@@ -4,11 +4,10 @@ use mathlib.Core.List.{List, [], _∷_, _++_, List·Memᴰ as Mem, List·Memᴰ�
 use Prim.Native.Nat.{ℕ, _≤_, _<_}
 use native.Mathlib.Omega.{arith}
 use lib.ListN.{length}
-use Rattle.lines.specs.declared.Kind.the-variants.{Recording}
+use Rattle.headers.specs.Layouts.{recording}
+use Rattle.headers.specs.Accepted.{Accepted}
 use Rattle.headers.specs.Places.{Place}
-use Rattle.headers.specs.Verdicts.{judgeOf}
-use Rattle.headers.specs.declared.Verdict.the-variants.{Good, Bad}
-use Rattle.headers.proofs.PlaceLaws.{bad-iff-place}
+use Rattle.headers.proofs.PlaceLaws.{one-size, one-place, accepted-no-place}
 use Rattle.recording.specs.Rows.{textWords}
 use Rattle.program.specs.Program.{refusalLine, Runs}
 use Rattle.promises.specs.Printed.{Recorded, Learnable, Before, Contradicted, TooLarge, Refused, too-long, faulty, too-many, contradicted, too-large, Prints, SheetPrinted, Printed, a-sheet, a-refusal, Rooms}
@@ -82,22 +81,10 @@ module _ (n : ℕ) (ts : List ℕ) where
 
 -- of two recordings of one text both the size and the words are one
 recorded-once : {t : List ℕ} {n m : ℕ} {ts us : List ℕ} → Recorded t n ts → Recorded t m us → (m ≡ n) × (us ≡ ts)
-recorded-once {n = n} {m = m} a b = (sizes (sym (b .good) ∙ a .good), b .words ∙ sym (a .words))
-  where
-    sizes : Good m ≡ Good n → m ≡ n
-    sizes e = cc
+recorded-once {t = t} {n = n} {m = m} a b = (one-size recording t m n (b .good) (a .good), b .words ∙ sym (a .words))
 
-not-good : {t : List ℕ} {n k : ℕ} → judgeOf Recording t ≡ Good n → Place Recording t k → ⊥
-not-good {t = t} {n = n} {k = k} h p = go (sym h ∙ bad-iff-place Recording t k .1 p)
-  where
-    go : Good n ≡ Bad k → ⊥
-    go e = let z : _≡_ {A = ℕ} 0 1 = cc in omega arith
-
-one-place : {t : List ℕ} {k j : ℕ} → Place Recording t k → Place Recording t j → k ≡ j
-one-place {t = t} {k = k} {j = j} p q = go (sym (bad-iff-place Recording t k .1 p) ∙ bad-iff-place Recording t j .1 q)
-  where
-    go : Bad k ≡ Bad j → k ≡ j
-    go e = cc
+not-good : {t : List ℕ} {n k : ℕ} → Accepted recording n t → Place recording t k → ⊥
+not-good {t = t} {n = n} {k = k} h p = accepted-no-place recording t n k h p
 
 module _ (t : List ℕ) where
   -- the text is refused with c at p, and with nothing else
@@ -111,14 +98,14 @@ module _ (t : List ℕ) where
   only-13 h _ _ (contradicted n k ts r c) = absurd (omega (arith, h, r .short))
   only-13 h _ _ (too-large n k ts r c) = absurd (omega (arith, h, r .short))
 
-  only-11 : (j : ℕ) → length t ≤ 24576 → Place Recording t j → Only 11 j
+  only-11 : (j : ℕ) → length t ≤ 24576 → Place recording t j → Only 11 j
   only-11 j h f _ _ (too-long l) = absurd (omega (arith, h, l))
-  only-11 j h f _ _ (faulty k s p) = (refl, one-place f p)
+  only-11 j h f _ _ (faulty k s p) = (refl, one-place recording t j k f p)
   only-11 j h f _ _ (too-many n s g m) = absurd (not-good g f)
   only-11 j h f _ _ (contradicted n k ts r c) = absurd (not-good (r .good) f)
   only-11 j h f _ _ (too-large n k ts r c) = absurd (not-good (r .good) f)
 
-  only-8 : (n : ℕ) → length t ≤ 24576 → judgeOf Recording t ≡ Good n → 1024 < length (textWords t) → Only 8 0
+  only-8 : (n : ℕ) → length t ≤ 24576 → Accepted recording n t → 1024 < length (textWords t) → Only 8 0
   only-8 n h g f _ _ (too-long l) = absurd (omega (arith, h, l))
   only-8 n h g f _ _ (faulty k s p) = absurd (not-good g p)
   only-8 n h g f _ _ (too-many m s i l) = (refl, refl)

@@ -12,10 +12,12 @@ use borrow.Author.Tests.{leb-true, leb-false, ltb-true, ltb-false}
 use Rattle.table.specs.Lists.{increasing}
 use Rattle.table.specs.Surgery.{filled}
 use Rattle.answers.specs.Answers.{refuse, done}
-use Rattle.lines.specs.declared.Kind.the-variants.{Recording}
+use Rattle.headers.specs.Layouts.{recording}
+use Rattle.headers.specs.Accepted.{Accepted}
 use Rattle.headers.specs.Verdicts.{judgeOf}
 use Rattle.headers.specs.declared.Verdict.{Verdict}
 use Rattle.headers.specs.declared.Verdict.the-variants.{Good, Bad}
+use Rattle.headers.proofs.Accepting.{good-iff-text}
 use Rattle.headers.proofs.PlaceLaws.{bad-iff-place}
 use Rattle.recording.specs.Rows.{textWords}
 use Rattle.recording.specs.Reading.{refusal, answerFor, listFor, readAnswer, readList}
@@ -89,16 +91,16 @@ module _ (t : List ℕ) where
   ended-says n k (refused c p) e (inl q) = subst (λ (z : ℕ). Refused t z p) (sym (q .0)) (contradicted n p (textWords t) k (q .1))
   ended-says n k (refused c p) e (inr q) = subst (λ (z : ℕ). Refused t z p) (sym (q .0)) (too-large n p (textWords t) k (q .1))
 
-  good-says : (n : ℕ) → length t ≤ 24576 → judgeOf Recording t ≡ Good n → length (textWords t) ≤ 1024 → Says t n (learnRun n 1024 1024 (textWords t))
+  good-says : (n : ℕ) → length t ≤ 24576 → Accepted recording n t → length (textWords t) ≤ 1024 → Says t n (learnRun n 1024 1024 (textWords t))
   good-says n h f k =
       ended-says n (record { short = h; good = f; words = refl; listed = k }) (learnRun n 1024 1024 (textWords t)) refl
       (learn-ended n (read-size t n f) (textWords t) (read-valid t n f) k)
 
   run-says : Says t (readAnswer t 1024 .n) (runIf (entryCode t 1024) (learnedRun t 1024 1024 1024) (entryPlace t 1024))
   unfolding entryCode entryPlace learnedRun readAnswer readList filled
-  run-says = go (tooLong t) (judgeOf Recording t) refl refl
+  run-says = go (tooLong t) (judgeOf recording t) refl refl
     where
-      fit : (n : ℕ) → length t ≤ 24576 → judgeOf Recording t ≡ Good n → (c : Bool) → leb (length (textWords t)) 1024 ≡ c
+      fit : (n : ℕ) → length t ≤ 24576 → Accepted recording n t → (c : Bool) → leb (length (textWords t)) 1024 ≡ c
           → Says t ((cond c (record { code = 0; place = 0; n = n; count = length (textWords t) }) (refusal 8 0)) .n)
           (runIf ((cond c (record { code = 0; place = 0; n = n; count = length (textWords t) }) (refusal 8 0)) .code)
           (learnRun ((cond c (record { code = 0; place = 0; n = n; count = length (textWords t) }) (refusal 8 0)) .n) 1024 1024
@@ -109,14 +111,14 @@ module _ (t : List ℕ) where
           (good-says n h f (leb-true (length (textWords t)) 1024 e))
       fit n h f false e = too-many n h f (leb-false (length (textWords t)) 1024 e)
 
-      go : (b : Bool) (v : Verdict) → tooLong t ≡ b → judgeOf Recording t ≡ v
+      go : (b : Bool) (v : Verdict) → tooLong t ≡ b → judgeOf recording t ≡ v
           → Says t (answerFor v (textWords t) 1024 .n)
           (runIf (refuse b 13 (answerFor v (textWords t) 1024 .code))
           (learnRun (answerFor v (textWords t) 1024 .n) 1024 1024 (take (answerFor v (textWords t) 1024 .count) (listFor v (textWords t) 1024)))
           (refuse b 0 (answerFor v (textWords t) 1024 .place)))
       go true v e f = too-long (ltb-true 24576 (length t) e)
-      go false (Bad k) e f = faulty k (ltb-false 24576 (length t) e) (bad-iff-place Recording t k .0 f)
-      go false (Good n) e f = fit n (ltb-false 24576 (length t) e) f (leb (length (textWords t)) 1024) refl
+      go false (Bad k) e f = faulty k (ltb-false 24576 (length t) e) (bad-iff-place recording t k .0 f)
+      go false (Good n) e f = fit n (ltb-false 24576 (length t) e) (good-iff-text recording t n .0 f) (leb (length (textWords t)) 1024) refl
 
   -- 12 is never given, and what is printed fits
   text-is : (room : ℕ) → 24576 ≤ room → 0 < length (printed t 1024 1024 1024 room)

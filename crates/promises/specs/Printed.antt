@@ -7,10 +7,9 @@ use lib.ListN.{length, take, drop}
 use Rattle.table.specs.Lists.{increasing}
 use Rattle.panel.specs.Transitions.{state, next}
 use Rattle.prime.specs.Sheets.{sheetOf}
-use Rattle.lines.specs.declared.Kind.the-variants.{Recording}
+use Rattle.headers.specs.Layouts.{recording}
+use Rattle.headers.specs.Accepted.{Accepted}
 use Rattle.headers.specs.Places.{Place}
-use Rattle.headers.specs.Verdicts.{judgeOf}
-use Rattle.headers.specs.declared.Verdict.the-variants.{Good}
 use Rattle.recording.specs.Rows.{textWords}
 use Rattle.writing.specs.SheetText.{sheetText}
 use Rattle.program.specs.Program.{refusalLine}
@@ -18,10 +17,10 @@ use Rattle.handover.specs.Demands.{Prime}
 
 -- ---- the recording
 
--- the text is not too long, its layout is good for n relays, and its rows stand for the words ts, which fit into the list
+-- the text is not too long, it is a recording for n relays, and its rows stand for the words ts, which fit into the list
 pub record Recorded (t : List ℕ) (n : ℕ) (ts : List ℕ) : Type 0 where
   pub short : length t ≤ 24576
-  pub good : judgeOf Recording t ≡ Good n
+  pub good : Accepted recording n t
   pub words : ts ≡ textWords t
   pub listed : length ts ≤ 1024
 
@@ -70,8 +69,8 @@ pub record TooLarge (n : ℕ) (ts : List ℕ) (k : ℕ) : Type 0 where
 -- the text is refused with a code and a place: 13, then 11 and 8 of reading, then 7 and 9 of learning, and no other code
 pub data Refused (t : List ℕ) : ℕ → ℕ → Type 0 where
   too-long : 24576 < length t → Refused t 13 0
-  faulty : (k : ℕ) → length t ≤ 24576 → Place Recording t k → Refused t 11 k
-  too-many : (n : ℕ) → length t ≤ 24576 → judgeOf Recording t ≡ Good n → 1024 < length (textWords t) → Refused t 8 0
+  faulty : (k : ℕ) → length t ≤ 24576 → Place recording t k → Refused t 11 k
+  too-many : (n : ℕ) → length t ≤ 24576 → Accepted recording n t → 1024 < length (textWords t) → Refused t 8 0
   contradicted : (n k : ℕ) (ts : List ℕ) → Recorded t n ts → Contradicted n ts k → Refused t 7 k
   too-large : (n k : ℕ) (ts : List ℕ) → Recorded t n ts → TooLarge n ts k → Refused t 9 k
 

@@ -9,7 +9,7 @@ use lib.Dec.{leb}
 use lib.ListN.{length, replicate, take}
 use borrow.Author.Tests.{le-leb, lt-leb}
 use Rattle.table.specs.Surgery.{clearedFrom, filled}
-use Rattle.lines.specs.declared.Kind.the-variants.{Recording}
+use Rattle.headers.specs.Layouts.{recording}
 use Rattle.headers.specs.Verdicts.{judgeOf}
 use Rattle.headers.specs.Places.{Place}
 use Rattle.headers.specs.declared.Verdict.{Verdict}
@@ -21,18 +21,18 @@ use Rattle.recording.specs.declared.ReadAnswer.{ReadAnswer}
 
 -- what `read` answers in each of its three cases, over what its calls answer
 module _ (t before after : List ℕ) (r : ReadAnswer) where
-  pub read-bad : (p : ℕ) → Bad p ≡ judgeOf Recording t → r ≡ refusal 11 p → after ≡ replicate (length before) 0 → Reads t before after r
+  pub read-bad : (p : ℕ) → Bad p ≡ judgeOf recording t → r ≡ refusal 11 p → after ≡ replicate (length before) 0 → Reads t before after r
   unfolding readAnswer readList
   read-bad p h a e = record { answer = rw (← h) a; list = rw (← h) e }
 
-  pub read-full : (n : ℕ) → Good n ≡ judgeOf Recording t → length before < length (textWords t) → r ≡ refusal 8 0
+  pub read-full : (n : ℕ) → Good n ≡ judgeOf recording t → length before < length (textWords t) → r ≡ refusal 8 0
       → after ≡ replicate (length before) 0 → Reads t before after r
   unfolding readAnswer readList
   read-full n h k a e =
       let f = lt-leb (length (textWords t)) (length before) k in
       record { answer = rw (← h, f) a; list = rw (← h, f) e }
 
-  pub read-done : (n k : ℕ) (d : List ℕ) → Good n ≡ judgeOf Recording t → k ≡ length (textWords t) → k ≤ length before → length d ≡ length before
+  pub read-done : (n k : ℕ) (d : List ℕ) → Good n ≡ judgeOf recording t → k ≡ length (textWords t) → k ≤ length before → length d ≡ length before
       → take k d ≡ textWords t → r ≡ record { code = 0; place = 0; n = n; count = k } → after ≡ clearedFrom k d
       → Reads t before after r
   unfolding readAnswer readList clearedFrom filled
@@ -46,11 +46,11 @@ read-unique a b = (a .answer ∙ sym (b .answer), a .list ∙ sym (b .list))
 
 -- `read` answers 11 with the place k exactly when k is the place of a fault as 01 defines it
 module _ {t before after : List ℕ} {r : ReadAnswer} (h : Reads t before after r) (k : ℕ) where
-  answer-by : (v : Verdict) → judgeOf Recording t ≡ v → r ≡ answerFor v (textWords t) (length before)
+  answer-by : (v : Verdict) → judgeOf recording t ≡ v → r ≡ answerFor v (textWords t) (length before)
   unfolding readAnswer
   answer-by v e = h .answer ∙ ap (λ (x : Verdict). answerFor x (textWords t) (length before)) e
 
-  bad-at : (v : Verdict) → judgeOf Recording t ≡ v → r .code ≡ 11 → r .place ≡ k → judgeOf Recording t ≡ Bad k
+  bad-at : (v : Verdict) → judgeOf recording t ≡ v → r .code ≡ 11 → r .place ≡ k → judgeOf recording t ≡ Bad k
   bad-at (Bad p) e c q = e ∙ ap Bad (sym (ap (λ (x : ReadAnswer). x .place) (answer-by (Bad p) e)) ∙ q)
   bad-at (Good n) e c q = absurd (go (leb (length (textWords t)) (length before)) (sym c ∙ ap (λ (x : ReadAnswer). x .code) (answer-by (Good n) e)))
     where
@@ -58,8 +58,8 @@ module _ {t before after : List ℕ} {r : ReadAnswer} (h : Reads t before after 
       go true z = omega arith
       go false z = omega arith
 
-  pub refused-11-iff-place : ((r .code ≡ 11) × (r .place ≡ k)) ↔ Place Recording t k
+  pub refused-11-iff-place : ((r .code ≡ 11) × (r .place ≡ k)) ↔ Place recording t k
   refused-11-iff-place = (
-    λ a. bad-iff-place Recording t k .0 (bad-at (judgeOf Recording t) refl (a .0) (a .1)),
-    λ p. let a = answer-by (Bad k) (bad-iff-place Recording t k .1 p) in (ap (λ (x : ReadAnswer). x .code) a, ap (λ (x : ReadAnswer). x .place) a),
+    λ a. bad-iff-place recording t k .0 (bad-at (judgeOf recording t) refl (a .0) (a .1)),
+    λ p. let a = answer-by (Bad k) (bad-iff-place recording t k .1 p) in (ap (λ (x : ReadAnswer). x .code) a, ap (λ (x : ReadAnswer). x .place) a),
   )

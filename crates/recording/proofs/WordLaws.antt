@@ -15,13 +15,12 @@ use Rattle.fields.specs.Texts.{linesOf}
 use Rattle.lines.specs.Lines.{lineOf}
 use Rattle.lines.specs.Bounds.{RowOk, LineOk}
 use Rattle.lines.specs.declared.Masks.{Masks}
-use Rattle.lines.specs.declared.Kind.the-variants.{Recording}
 use Rattle.lines.specs.declared.Line.{Line}
 use Rattle.lines.specs.declared.Line.the-variants.{Empty, Sized, Typed, Rows, Row, End, Fault}
 use Rattle.lines.proofs.BoundLaws.{line-ok}
-use Rattle.headers.specs.Verdicts.{judgeOf}
-use Rattle.headers.specs.declared.Verdict.the-variants.{Good}
-use Rattle.headers.proofs.Sizes.{OfSize, AllOfSize, good-size, good-rows}
+use Rattle.headers.specs.Layouts.{recording}
+use Rattle.headers.specs.Accepted.{All, Accepted}
+use Rattle.headers.proofs.Sizes.{RowFits, text-size, text-rows}
 use Rattle.recording.specs.Rows.{matchesOf, wordsBelow, lineWords, linesWords, textWords}
 
 all-append : (f : ℕ → Bool) (s t : List ℕ) → all f s ≡ true → all f t ≡ true → all f (s ++ t) ≡ true
@@ -38,27 +37,27 @@ below-valid m o (suc i) l =
     go true = and-i _ true (word-valid (m .width) i (m .next) (o .few) (omega arith) (o .next-small)) refl
     go false = refl
 
-line-valid : (n : ℕ) (l : Line) → LineOk l → OfSize n l → all (validTransition n) (lineWords l) ≡ true
+line-valid : (n : ℕ) (l : Line) → LineOk l → RowFits recording n l → all (validTransition n) (lineWords l) ≡ true
 line-valid n Empty o s = refl
 line-valid n (Sized p k) o s = refl
 line-valid n (Typed t) o s = refl
 line-valid n (Rows v) o s = refl
-line-valid n (Row m) o s = ap (λ (k : ℕ). all (validTransition k) (wordsBelow m (2 ^ (m .width)))) (sym s) ∙ below-valid m o (2 ^ (m .width)) (omega arith)
+line-valid n (Row m) o s = ap (λ (k : ℕ). all (validTransition k) (wordsBelow m (2 ^ (m .width)))) (sym (s .width)) ∙ below-valid m o (2 ^ (m .width)) (omega arith)
 line-valid n End o s = refl
 line-valid n Fault o s = refl
 
-lines-valid : (n : ℕ) (ls : List (List ℕ)) → AllOfSize n ls → all (validTransition n) (linesWords ls) ≡ true
+lines-valid : (n : ℕ) (ls : List (List ℕ)) → All (RowFits recording n) ls → all (validTransition n) (linesWords ls) ≡ true
 unfolding linesWords
 lines-valid n [] s = refl
 lines-valid n (l ∷ ls) s = all-append (validTransition n) (lineWords (lineOf l)) (linesWords ls) (line-valid n (lineOf l) (line-ok l) (s .0)) (lines-valid n ls (s .1))
 
-module _ (t : List ℕ) (n : ℕ) (h : judgeOf Recording t ≡ Good n) where
+module _ (t : List ℕ) (n : ℕ) (h : Accepted recording n t) where
   pub read-size : panelSize n ≡ true
   unfolding panelSize
   read-size =
-      let s = good-size Recording t n h in
+      let s = text-size recording n (linesOf t) h in
       and-i (ltb 0 n) (ltb n 11) (lt-ltb 0 n (s .0)) (lt-ltb n 11 (omega (arith, s .1)))
 
   pub read-valid : all (validTransition n) (textWords t) ≡ true
   unfolding textWords
-  read-valid = lines-valid n (linesOf t) (good-rows Recording t n h)
+  read-valid = lines-valid n (linesOf t) (text-rows recording n (linesOf t) h)

@@ -6,7 +6,7 @@ use mathlib.Core.Bool.{cond}
 use lib.Dec.{leb}
 use lib.ListN.{length, replicate}
 use Rattle.table.specs.Surgery.{filled}
-use Rattle.lines.specs.declared.Kind.the-variants.{Recording}
+use Rattle.headers.specs.Layouts.{recording}
 use Rattle.headers.specs.Verdicts.{judgeOf}
 use Rattle.headers.specs.declared.Verdict.{Verdict}
 use Rattle.headers.specs.declared.Verdict.the-variants.{Good, Bad}
@@ -35,11 +35,11 @@ listFor (Good n) ws room = cond (leb (length ws) room) (filled room ws) (replica
 
 -- the answer to a text, with room for so many words
 unfoldable pub readAnswer : List ℕ → ℕ → ReadAnswer
-readAnswer t room = answerFor (judgeOf Recording t) (textWords t) room
+readAnswer t room = answerFor (judgeOf recording t) (textWords t) room
 
 -- the list after it
 unfoldable pub readList : List ℕ → ℕ → List ℕ
-readList t room = listFor (judgeOf Recording t) (textWords t) room
+readList t room = listFor (judgeOf recording t) (textWords t) room
 
 -- what `read` ensures: the text, the list before and after, and the answer
 pub record Reads (t before after : List ℕ) (r : ReadAnswer) : Type 0 where

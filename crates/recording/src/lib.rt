@@ -1,6 +1,5 @@
 // Reading a recording: the words of its rows' transitions, in a lent list.
 use headers::Verdict;
-use lines::Kind;
 use lines::Line;
 use lines::Masks;
 ghost use mathlib.Core.Path.{_≡_};
@@ -119,7 +118,8 @@ fn refused(code: u32, place: usize) -> ReadAnswer
 pub fn read(text: &[u8], list: &mut [u32]) -> ReadAnswer
     ensures { λ r. ⌜ Reads (now (text .entry)) (now (list .entry)) (now (list .exit)) r ⌝ }
 {
-    let v = headers::judge(Kind::Recording, text);
+    let lay = headers::recording_layout();
+    let v = headers::judge(lay, text);
     match v {
         Verdict::Bad(p) => {
             table::clear(list);

@@ -1,6 +1,6 @@
 -- `headers::allowed` meets its contract.
-use borrow.Author.Needs.{needs}
 use mathlib.Core.Path.{refl}
+use borrow.Author.Needs.{needs}
 use Rattle.headers.proofs.allowed.Statement.{statement}
 use Rattle.headers.proofs.allowed.Tie as tie
 
@@ -8,13 +8,13 @@ returns : tie.Need-returns
 returns c = rw (c .enum-told .given .1) refl
 
 returns-2 : tie.Need-returns-2
-returns-2 c = rw (c .before .before .l .given .1) (c .size-allowed .ensures)
+returns-2 c = rw (c .before .before .before .l .given .1, ← (c .before .fits2 .ensures)) (c .header-allowed .ensures)
 
 returns-3 : tie.Need-returns-3
-returns-3 c = rw (c .before .before .l2 .given .1) (c .type-allowed .ensures)
+returns-3 c = rw (c .before .before .before .l2 .given .1, ← (c .before .same-kind .ensures)) (c .header-allowed2 .ensures)
 
 returns-4 : tie.Need-returns-4
-returns-4 c = rw (c .before .enum-told2 .given .1) (c .count-allowed .ensures)
+returns-4 c = rw (c .before .enum-told2 .given .1) (c .header-allowed3 .ensures)
 
 returns-5 : tie.Need-returns-5
 returns-5 c = rw (c .before .before .l3 .given .1) (c .row-allowed .ensures)
@@ -32,7 +32,9 @@ allowed-spec =
     (λ c. search needs)
     (λ c. search needs)
     (λ c κs. search needs)
+    (λ c κs. search needs)
     (λ c. search needs)
+    (λ c κs. search needs)
     (λ c κs. search needs)
     (λ c. search needs)
     (λ c κs. search needs)

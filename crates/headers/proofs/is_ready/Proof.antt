@@ -1,16 +1,48 @@
 -- `headers::is_ready` meets its contract.
-use Rattle.headers.specs.Headers.{readyOf}
-use borrow.Author.Tests.{not-true, not-false}
+use mathlib.Core.Path.{refl, sym, _∙_}
+use Rattle.headers.specs.Headers.{readyOf, lacksNone}
+use Rattle.headers.proofs.Seeing.{last-lacked}
+use borrow.Author.Needs.{needs}
 use Rattle.headers.proofs.is_ready.Statement.{statement}
 use Rattle.headers.proofs.is_ready.Tie as tie
 
 returns : tie.Need-returns
-unfolding readyOf
-returns c = rw (not-true (c .before .before .args .st .ins) (c .if1 .taken))
+unfolding readyOf lacksNone
+returns c = rw (sym (c .before .lacks-header .ensures) ∙ c .if1 .taken) refl
 
 returns-2 : tie.Need-returns-2
-unfolding readyOf
-returns-2 c = rw (not-false (c .before .before .args .st .ins) (c .if1 .left))
+unfolding readyOf lacksNone
+returns-2 c =
+    let ins = c .before .before .before .lacks-header in
+    let outs = c .before .lacks-header2 in
+    rw (sym (ins .ensures) ∙ c .before .before .if1 .left, sym (outs .ensures) ∙ c .if2 .taken) refl
+
+returns-3 : tie.Need-returns-3
+unfolding readyOf lacksNone
+returns-3 c =
+    let ins = c .before .before .before .before .before .lacks-header in
+    let outs = c .before .before .before .lacks-header2 in
+    let word = c .before .lacks-header3 in
+    rw (sym (ins .ensures) ∙ c .before .before .before .before .if1 .left, sym (outs .ensures) ∙ c .before .before .if2 .left, sym (word .ensures) ∙ c .if3 .taken) refl
+
+returns-4 : tie.Need-returns-4
+unfolding readyOf lacksNone
+returns-4 c =
+    let ins = c .before .before .before .before .before .before .lacks-header in
+    let outs = c .before .before .before .before .lacks-header2 in
+    let word = c .before .before .lacks-header3 in
+    rw (sym (ins .ensures) ∙ c .before .before .before .before .before .if1 .left, sym (outs .ensures) ∙ c .before .before .before .if2 .left, sym (word .ensures) ∙ c .before .if3 .left)
+    (last-lacked _ _ (c .lacks-header4 .ensures))
 
 pub is-ready-spec : {M : Type 1} → statement M
-is-ready-spec = tie.close (tie.spec returns returns-2)
+is-ready-spec =
+    tie.close
+    (tie.spec
+    (λ c κs. search needs)
+    returns
+    (λ c κs. search needs)
+    returns-2
+    (λ c κs. search needs)
+    returns-3
+    (λ c κs. search needs)
+    returns-4)

@@ -1,17 +1,17 @@
 -- `headers::next` meets its contract.
-use borrow.Author.Needs.{needs}
 use mathlib.Core.Path.{refl}
+use borrow.Author.Needs.{needs}
 use Rattle.headers.proofs.next.Statement.{statement}
 use Rattle.headers.proofs.next.Tie as tie
 
 returns-2 : tie.Need-returns-2
-returns-2 c = rw (c .before .before .l .given .1) (c .with-part .ensures)
+returns-2 c = rw (c .before .before .l .given .1, c .with-header .ensures) refl
 
 returns-3 : tie.Need-returns-3
-returns-3 c = rw (c .enum-told2 .given .1) refl
+returns-3 c = rw (c .before .enum-told2 .given .1, c .with-header2 .ensures) refl
 
 returns-4 : tie.Need-returns-4
-returns-4 c = rw (c .before .l2 .given .1) refl
+returns-4 c = rw (c .before .before .l2 .given .1, c .with-header3 .ensures) refl
 
 returns-5 : tie.Need-returns-5
 returns-5 c = rw (c .before .enum-told3 .given .1) refl
@@ -27,7 +27,9 @@ next-spec =
     (λ c. search needs)
     (λ c κs. search needs)
     (λ c. search needs)
+    (λ c κs. search needs)
     (λ c. search needs)
+    (λ c κs. search needs)
     (λ c. search needs)
     (λ c. search needs)
     (λ c. search needs)

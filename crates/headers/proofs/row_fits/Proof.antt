@@ -1,14 +1,49 @@
 -- `headers::row_fits` meets its contract.
+use mathlib.Core.Path.{refl, sym, _∙_, ap}
+use Prim.Native.Nat.{ℕ}
+use lib.Dec.{ltb}
+use borrow.Author.Tests.{not-true, not-false}
+use Rattle.headers.specs.Headers.{rowFits}
 use borrow.Author.Needs.{needs}
-use mathlib.Core.Path.{refl}
 use Rattle.headers.proofs.row_fits.Statement.{statement}
 use Rattle.headers.proofs.row_fits.Tie as tie
 
 returns : tie.Need-returns
-returns c = rw (c .before .enum-told .given .1) refl
+unfolding rowFits
+returns c = let inputs = c .before .free-of in rw (sym (inputs .ensures) ∙ not-true (inputs .result) (c .if1 .taken)) refl
 
 returns-2 : tie.Need-returns-2
-returns-2 c = rw (c .before .enum-told2 .given .1) refl
+unfolding rowFits
+returns-2 c =
+    let inputs = c .before .before .before .free-of in
+    let outputs = c .before .free-of2 in
+    rw (sym (inputs .ensures) ∙ not-false (inputs .result) (c .before .before .if1 .left), sym (outputs .ensures) ∙ not-true (outputs .result) (c .if2 .taken)) refl
+
+returns-3 : tie.Need-returns-3
+unfolding rowFits
+returns-3 c =
+    let inputs = c .before .before .before .before .before .free-of in
+    let outputs = c .before .before .before .free-of2 in
+    let lay = c .before .before .before .before .before .before .args .lay in
+    rw (sym (inputs .ensures) ∙ not-false (inputs .result) (c .before .before .before .before .if1 .left), sym (outputs .ensures) ∙ not-false (outputs .result) (c .before .before .if2 .left), not-true (lay .single) (c .if3 .taken)) refl
+
+returns-4 : tie.Need-returns-4
+unfolding rowFits
+returns-4 c =
+    let inputs = c .before .before .before .before .before .before .free-of in
+    let outputs = c .before .before .before .before .free-of2 in
+    let lay = c .before .before .before .before .before .before .before .args .lay in
+    rw (sym (inputs .ensures) ∙ not-false (inputs .result) (c .before .before .before .before .before .if1 .left), sym (outputs .ensures) ∙ not-false (outputs .result) (c .before .before .before .if2 .left), not-false (lay .single) (c .before .if3 .left))
+    (ap (λ (n : ℕ). ltb n 10) (c .only-on .ensures))
 
 pub row-fits-spec : {M : Type 1} → statement M
-row-fits-spec = tie.close (tie.spec (λ c. search needs) (λ c. search needs) returns returns-2)
+row-fits-spec =
+    tie.close
+    (tie.spec
+    (λ c κs. search needs)
+    returns
+    (λ c κs. search needs)
+    returns-2
+    returns-3
+    (λ c κs. search needs)
+    returns-4)

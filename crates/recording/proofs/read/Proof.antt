@@ -1,8 +1,9 @@
 -- `recording::read` meets its contract.
 use Prim.Native.Nat.{ℕ}
+use Rattle.headers.specs.Layouts.{recording}
 use Rattle.headers.specs.Verdicts.{judgeOf}
+use Rattle.headers.specs.declared.Layout.{Layout}
 use Rattle.headers.specs.declared.Verdict.the-variants.{Good, Bad}
-use Rattle.lines.specs.declared.Kind.the-variants.{Recording}
 use Rattle.recording.proofs.FillLaws.{filled-full-at, filled-to-at}
 use Rattle.recording.proofs.ReadLaws.{read-bad, read-full, read-done}
 use Rattle.recording.specs.Reading.{filledOf}
@@ -18,7 +19,7 @@ use Rattle.recording.proofs.read.Tie as tie
 
 clear-from-requires : tie.Need-clear-from-requires
 clear-from-requires c κs =
-    let start = c .before .before .before .before .before .before .before .before .before .before .before .before .before .before in
+    let start = c .before .before .before .before .before .before .before .before .before .before .before .before .before .before .before in
     let t = now (start .args .text) in
     let k = c .before .before .f .given .0 .0 in
     let fr : To k ≡ filledOf 0 (length (textWords t)) (length (now (start .args .list))) = sym (c .before .before .f .given .1) ∙ c .before .before .before .before .before .before .fill .ensures .0 in
@@ -28,7 +29,9 @@ clear-from-requires c κs =
 returns : tie.Need-returns
 returns c =
     let the-v = c .before .before .before .before .before .before .v in
-    let j : Bad (the-v .given .0 .0) ≡ judgeOf Recording (now (c .before .before .before .before .before .before .before .before .before .before .before .args .text)) = sym (the-v .given .1) ∙ c .before .before .before .before .before .before .before .before .judge .ensures in
+    let judged = c .before .before .before .before .before .before .before .before in
+    let t = now (c .before .before .before .before .before .before .before .before .before .before .before .before .args .text) in
+    let j : Bad (the-v .given .0 .0) ≡ judgeOf recording t = sym (the-v .given .1) ∙ judged .judge .ensures ∙ ap (λ (lay : Layout). judgeOf lay t) (judged .before .recording-layout .ensures) in
     read-bad _ _ _ _ _ j (c .refused .ensures) (c .before .before .before .clear .ensures)
 
 returns-2 : tie.Need-returns-2
@@ -36,24 +39,26 @@ returns-2 c =
     let the-v2 = c .before .before .before .before .before .before .before .before .before .before .before .before .v2 in
     let the-fill = c .before .before .before .before .before .before .before .before .before .fill in
     let the-f = c .before .before .before .before .before .f in
-    let a = c .before .before .before .before .before .before .before .before .before .before .before .before .before .before .before .before .before .args in
+    let a = c .before .before .before .before .before .before .before .before .before .before .before .before .before .before .before .before .before .before .args in
     let t = now (a .text) in
     let k = the-f .given .0 .0 in
     let fr : To k ≡ filledOf 0 (length (textWords t)) (length (now (a .list))) = sym (the-f .given .1) ∙ the-fill .ensures .0 in
     let g = filled-to-at 0 (length (textWords t)) (length (now (a .list))) k fr in
     let q : k ≡ length (textWords t) = omega arith in
-    let j : Good (the-v2 .given .0 .0) ≡ judgeOf Recording t = sym (the-v2 .given .1) ∙ c .before .before .before .before .before .before .before .before .before .before .before .before .before .before .judge .ensures in
+    let judged = c .before .before .before .before .before .before .before .before .before .before .before .before .before .before in
+    let j : Good (the-v2 .given .0 .0) ≡ judgeOf recording t = sym (the-v2 .given .1) ∙ judged .judge .ensures ∙ ap (λ (lay : Layout). judgeOf lay t) (judged .before .recording-layout .ensures) in
     read-done t (now (a .list)) _ _ _ k (the-fill .last .1 .0) j q (omega arith) (omega arith) (rw q (the-fill .ensures .1 (omega arith))) refl (c .before .before .clear-from .ensures)
 
 returns-3 : tie.Need-returns-3
 returns-3 c =
     let the-v2 = c .before .before .before .before .before .before .before .before .before .before .before .before .v2 in
     let the-fill = c .before .before .before .before .before .before .before .before .before .fill in
-    let a = c .before .before .before .before .before .before .before .before .before .before .before .before .before .before .before .before .before .args in
+    let a = c .before .before .before .before .before .before .before .before .before .before .before .before .before .before .before .before .before .before .args in
     let t = now (a .text) in
     let fr : Full ≡ filledOf 0 (length (textWords t)) (length (now (a .list))) = sym (c .before .before .before .before .before .enum-told .given .1) ∙ the-fill .ensures .0 in
     let g = filled-full-at 0 (length (textWords t)) (length (now (a .list))) fr in
-    let j : Good (the-v2 .given .0 .0) ≡ judgeOf Recording t = sym (the-v2 .given .1) ∙ c .before .before .before .before .before .before .before .before .before .before .before .before .before .before .judge .ensures in
+    let judged = c .before .before .before .before .before .before .before .before .before .before .before .before .before .before in
+    let j : Good (the-v2 .given .0 .0) ≡ judgeOf recording t = sym (the-v2 .given .1) ∙ judged .judge .ensures ∙ ap (λ (lay : Layout). judgeOf lay t) (judged .before .recording-layout .ensures) in
     let n : length (the-fill .last .1 .0) ≡ length (now (a .list)) = omega arith in
     read-full t (now (a .list)) _ _ _ j (omega arith) (c .refused2 .ensures) (c .before .before .before .clear2 .ensures ∙ ap (λ (k : ℕ). replicate k 0) n)
 
@@ -61,6 +66,7 @@ pub read-spec : {M : Type 1} → statement M
 read-spec =
     tie.close
     (tie.spec
+    (λ c κs. search needs)
     (λ c κs. search needs)
     (λ c. search needs)
     (λ c κs. search needs)

@@ -1,0 +1,230 @@
+-- Short texts, accepted and refused, by computing the verdict, and what each verdict means by the definitions; one text built by hand to the
+-- definition of an accepted text, and one fault of each kind.
+use Prim.Native.Nat.{ℕ, _≤_}
+use mathlib.Core.Path.{_≡_, refl, sym}
+use mathlib.Core.List.{List, [], _∷_, _++_}
+use mathlib.Core.Bool.{true, false, false≢true}
+use native.Mathlib.Omega.{arith}
+use Rattle.fields.specs.Bytes.{markOf, run, same}
+use Rattle.fields.specs.Texts.{body, linesOf}
+use Rattle.fields.specs.Fields.{fieldsFrom, fieldsIn}
+use Rattle.fields.specs.Values.{cubeOf, digits, numberOf}
+use Rattle.fields.proofs.JoinLaws.{lines-no-feeds}
+use Rattle.lines.specs.Lines.{keyOf, typedOf, rowLine, classOf, ofFields, lineOf}
+use Rattle.lines.specs.declared.Part.the-variants.{Ins, Outs}
+use Rattle.headers.specs.Layouts.{recording, asks}
+use Rattle.headers.specs.Headers.{lacks, lacksNone, readyOf, rowFits, openOf, fitsOf, headerAllowed, endAllowed, rowAllowed, allowedAt, nextAt}
+use Rattle.headers.specs.Verdicts.{finishOf, judgeLines, judgeOf}
+use Rattle.headers.specs.Accepted.{times, rowsIn, Accepted}
+use Rattle.headers.specs.Places.{Begins, endIn, FaultyLine, EndMissing, WrongCount, Place}
+use Rattle.headers.specs.declared.Header.{Header}
+use Rattle.headers.specs.declared.Header.the-variants.{Size, TypeWord, Count}
+use Rattle.headers.specs.declared.Verdict.{Verdict}
+use Rattle.headers.specs.declared.Verdict.the-variants.{Good, Bad}
+use Rattle.headers.proofs.Passing.{allPass}
+use Rattle.headers.proofs.Accepting.{good-iff-text}
+use Rattle.headers.proofs.PlaceLaws.{passes-begins, begins-passes, bad-iff-place}
+
+-- ---- lines, each with its LF
+
+-- `.i 1`
+abbrev i1 : List ℕ
+i1 = 46 ∷ 105 ∷ 32 ∷ 49 ∷ 10 ∷ []
+
+-- `.o 1`
+abbrev o1 : List ℕ
+o1 = 46 ∷ 111 ∷ 32 ∷ 49 ∷ 10 ∷ []
+
+-- `.o 2`
+abbrev o2 : List ℕ
+o2 = 46 ∷ 111 ∷ 32 ∷ 50 ∷ 10 ∷ []
+
+-- `.type fr`
+abbrev fr : List ℕ
+fr = 46 ∷ 116 ∷ 121 ∷ 112 ∷ 101 ∷ 32 ∷ 102 ∷ 114 ∷ 10 ∷ []
+
+-- `.type f`
+abbrev f : List ℕ
+f = 46 ∷ 116 ∷ 121 ∷ 112 ∷ 101 ∷ 32 ∷ 102 ∷ 10 ∷ []
+
+-- `.p 0`
+abbrev p0 : List ℕ
+p0 = 46 ∷ 112 ∷ 32 ∷ 48 ∷ 10 ∷ []
+
+-- `.p 1`
+abbrev p1 : List ℕ
+p1 = 46 ∷ 112 ∷ 32 ∷ 49 ∷ 10 ∷ []
+
+-- `.p 2`
+abbrev p2 : List ℕ
+p2 = 46 ∷ 112 ∷ 32 ∷ 50 ∷ 10 ∷ []
+
+-- `1 0`
+abbrev row : List ℕ
+row = 49 ∷ 32 ∷ 48 ∷ 10 ∷ []
+
+-- `- 1`
+abbrev dash : List ℕ
+dash = 45 ∷ 32 ∷ 49 ∷ 10 ∷ []
+
+-- `1 -`
+abbrev unread : List ℕ
+unread = 49 ∷ 32 ∷ 45 ∷ 10 ∷ []
+
+-- `10 01`
+abbrev wide : List ℕ
+wide = 49 ∷ 48 ∷ 32 ∷ 48 ∷ 49 ∷ 10 ∷ []
+
+-- `.e`
+abbrev end : List ℕ
+end = 46 ∷ 101 ∷ 10 ∷ []
+
+-- a blank
+abbrev blank : List ℕ
+blank = 32 ∷ 10 ∷ []
+
+-- `# lamps`
+abbrev note : List ℕ
+note = 35 ∷ 32 ∷ 108 ∷ 97 ∷ 109 ∷ 112 ∷ 115 ∷ 10 ∷ []
+
+-- ---- verdicts
+
+-- the verdict on each text is as written
+abbrev Judged : List (List ℕ × Verdict) → Type 0
+Judged [] = Unit {0}
+Judged (e ∷ es) = (judgeOf recording (e .0) ≡ e .1) × Judged es
+
+-- accepted: headers in any order, with and without `.type` and `.p`, with dashes for states, no rows;
+-- refused: no lines; the later of unequal sizes; `.i`, `.type`, `.p` twice; `.type f`; a row, the end mark before both sizes; `.type`, `.p`,
+-- `.i` after a row; a row too wide; `-` in outputs; a row, the end mark, a header after the end mark; no end mark; the wrong number of rows,
+-- and the same with another fault
+abbrev texts : List (List ℕ × Verdict)
+texts =
+    (i1 ++ o1 ++ row ++ end, Good 1)
+    ∷ (o1 ++ note ++ fr ++ p2 ++ i1 ++ blank ++ row ++ note ++ dash ++ end ++ blank ++ note, Good 1)
+    ∷ (i1 ++ o1 ++ p0 ++ end, Good 1)
+    ∷ ([], Bad 1)
+    ∷ (i1 ++ o2 ++ row ++ end, Bad 2)
+    ∷ (i1 ++ i1 ++ o1 ++ end, Bad 2)
+    ∷ (i1 ++ o1 ++ fr ++ fr ++ row ++ end, Bad 4)
+    ∷ (i1 ++ o1 ++ p1 ++ p1 ++ row ++ end, Bad 4)
+    ∷ (f ++ i1 ++ o1 ++ row ++ end, Bad 1)
+    ∷ (i1 ++ row ++ o1 ++ end, Bad 2)
+    ∷ (i1 ++ end, Bad 2)
+    ∷ (i1 ++ o1 ++ row ++ fr ++ end, Bad 4)
+    ∷ (i1 ++ o1 ++ row ++ p1 ++ end, Bad 4)
+    ∷ (i1 ++ o1 ++ row ++ i1 ++ end, Bad 4)
+    ∷ (i1 ++ o1 ++ wide ++ end, Bad 3)
+    ∷ (i1 ++ o1 ++ unread ++ end, Bad 3)
+    ∷ (i1 ++ o1 ++ end ++ row, Bad 4)
+    ∷ (i1 ++ o1 ++ end ++ end, Bad 4)
+    ∷ (i1 ++ o1 ++ end ++ fr, Bad 4)
+    ∷ (i1 ++ o1 ++ row ++ blank, Bad 5)
+    ∷ (i1 ++ p2 ++ o1 ++ row ++ end, Bad 2)
+    ∷ (i1 ++ p2 ++ o1 ++ row ++ unread ++ end, Bad 5)
+    ∷ []
+
+pub texts-judged : Judged texts
+unfolding markOf run same body linesOf fieldsFrom fieldsIn cubeOf digits numberOf keyOf typedOf rowLine classOf ofFields lineOf lacks lacksNone readyOf rowFits openOf fitsOf headerAllowed endAllowed rowAllowed allowedAt nextAt finishOf judgeLines judgeOf
+texts-judged = (refl, (refl, (refl, (refl, (refl, (refl, (refl, (refl, (refl, (refl, (refl, (refl, (refl, (refl, (refl, (refl, (refl, (refl, (refl, (refl, (refl, (refl, tt))))))))))))))))))))))
+
+-- what a verdict means: the text is a recording for n relays, or k is the place of its fault
+abbrev Means : List ℕ → Verdict → Type 0
+Means t (Good n) = Accepted recording n t
+Means t (Bad k) = Place recording t k
+
+abbrev Meant : List (List ℕ × Verdict) → Type 0
+Meant [] = Unit {0}
+Meant (e ∷ es) = Means (e .0) (e .1) × Meant es
+
+means : (t : List ℕ) (v : Verdict) → judgeOf recording t ≡ v → Means t v
+means t (Good n) e = good-iff-text recording t n .0 e
+means t (Bad k) e = bad-iff-place recording t k .0 e
+
+meant : (es : List (List ℕ × Verdict)) → Judged es → Meant es
+meant [] h = tt
+meant (e ∷ es) h = (means (e .0) (e .1) (h .0), meant es (h .1))
+
+pub texts-meant : Meant texts
+texts-meant = meant texts texts-judged
+
+-- ---- an accepted text by hand
+
+abbrev whole : List ℕ
+whole = i1 ++ o1 ++ row ++ end
+
+abbrev sizes : List (List ℕ)
+sizes = (46 ∷ 105 ∷ 32 ∷ 49 ∷ []) ∷ (46 ∷ 111 ∷ 32 ∷ 49 ∷ []) ∷ []
+
+sizes-once : (h : Header) → times h sizes ≤ 1
+unfolding times markOf run same body fieldsFrom fieldsIn digits numberOf keyOf typedOf classOf ofFields lineOf
+sizes-once (Size Ins) = omega arith
+sizes-once (Size Outs) = omega arith
+sizes-once TypeWord = omega arith
+sizes-once Count = omega arith
+
+sizes-asked : (h : Header) → asks recording h ≡ true → times h sizes ≡ 1
+unfolding times markOf run same body fieldsFrom fieldsIn digits numberOf keyOf typedOf classOf ofFields lineOf
+sizes-asked (Size Ins) e = refl
+sizes-asked (Size Outs) e = refl
+sizes-asked TypeWord e = absurd (false≢true e)
+sizes-asked Count e = absurd (false≢true e)
+
+pub whole-accepted : Accepted recording 1 whole
+unfolding markOf run same body linesOf fieldsFrom fieldsIn cubeOf digits numberOf keyOf typedOf rowLine classOf ofFields lineOf
+whole-accepted =
+    record {
+      top = sizes;
+      middle = (49 ∷ 32 ∷ 48 ∷ []) ∷ [];
+      mark = 46 ∷ 101 ∷ [];
+      rest = [];
+      lines = refl;
+      headers = (refl, (refl, tt));
+      once = sizes-once;
+      asked = sizes-asked;
+      rows = (record { width = refl; inputs = λ e. absurd (false≢true (sym e)); outputs = λ e. refl; single = λ e. absurd (false≢true e) }, tt);
+      ends = refl;
+      empty = tt;
+    }
+
+-- ---- one fault of each kind
+
+-- `.i 1` and `.o 1` begin an accepted text
+pub sizes-begin : Begins recording (linesOf (i1 ++ o1))
+unfolding markOf run same body linesOf fieldsFrom fieldsIn cubeOf digits numberOf keyOf typedOf rowLine classOf ofFields lineOf lacks lacksNone readyOf rowFits openOf fitsOf headerAllowed endAllowed rowAllowed allowedAt nextAt allPass
+sizes-begin = passes-begins recording (linesOf (i1 ++ o1)) (lines-no-feeds (i1 ++ o1)) refl
+
+-- a header after a row
+pub header-faulty : FaultyLine recording (i1 ++ o1 ++ row ++ fr ++ end) 4
+unfolding markOf run same body linesOf fieldsFrom fieldsIn cubeOf digits numberOf keyOf typedOf rowLine classOf ofFields lineOf lacks lacksNone readyOf rowFits openOf fitsOf headerAllowed endAllowed rowAllowed allowedAt nextAt allPass
+header-faulty =
+    record {
+      before = linesOf (i1 ++ o1 ++ row);
+      line = 46 ∷ 116 ∷ 121 ∷ 112 ∷ 101 ∷ 32 ∷ 102 ∷ 114 ∷ [];
+      after = linesOf end;
+      lines = refl;
+      number = refl;
+      begins = passes-begins recording (linesOf (i1 ++ o1 ++ row)) (lines-no-feeds (i1 ++ o1 ++ row)) refl;
+      begins-no-more = λ b. false≢true (begins-passes recording (linesOf (i1 ++ o1 ++ row ++ fr)) b);
+    }
+
+pub end-missing : EndMissing recording (i1 ++ o1 ++ row) 4
+unfolding markOf run same body linesOf fieldsFrom fieldsIn cubeOf digits numberOf keyOf typedOf rowLine classOf ofFields lineOf lacks lacksNone readyOf rowFits openOf fitsOf headerAllowed endAllowed rowAllowed allowedAt nextAt allPass endIn
+end-missing =
+    record { begins = passes-begins recording (linesOf (i1 ++ o1 ++ row)) (lines-no-feeds (i1 ++ o1 ++ row)) refl; endless = refl; number = refl }
+
+pub count-wrong : WrongCount recording (i1 ++ p2 ++ o1 ++ row ++ end) 2
+unfolding markOf run same body linesOf fieldsFrom fieldsIn cubeOf digits numberOf keyOf typedOf rowLine classOf ofFields lineOf lacks lacksNone readyOf rowFits openOf fitsOf headerAllowed endAllowed rowAllowed allowedAt nextAt allPass endIn rowsIn
+count-wrong =
+    record {
+      before = linesOf i1;
+      line = 46 ∷ 112 ∷ 32 ∷ 50 ∷ [];
+      after = linesOf (o1 ++ row ++ end);
+      count = 2;
+      lines = refl;
+      number = refl;
+      counts = refl;
+      begins = passes-begins recording (linesOf (i1 ++ p2 ++ o1 ++ row ++ end)) (lines-no-feeds (i1 ++ p2 ++ o1 ++ row ++ end)) refl;
+      ended = refl;
+      wrong = λ e. omega (arith, e);
+    }
