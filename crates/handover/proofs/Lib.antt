@@ -4,3 +4,5 @@ pub mod Bench
 pub mod Clauses
 pub mod Document000
 pub mod Specializations
+pub mod Takes
+pub mod Histories
