@@ -6,3 +6,4 @@ pub mod Document000
 pub mod Specializations
 pub mod Takes
 pub mod Histories
+pub mod Instances

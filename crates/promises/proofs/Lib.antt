@@ -3,3 +3,4 @@ pub mod TextToText
 pub mod OneText
 pub mod Exactly
 pub mod OneResult
+pub mod Instances
