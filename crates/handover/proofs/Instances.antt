@@ -22,6 +22,7 @@ use Rattle.learning.specs.Learn.{taken, learnStep, learnWords, learnStart, repr
 use Rattle.joining.specs.Joining.{exceeds, piecesCode, joinCode, joinAnswer, bookAfter, sheetAfter, Joined}
 use Rattle.sessions.specs.declared.Session.{Session}
 use Rattle.sessions.specs.Sessions.{freshSession, startSession, totalsFit, sessionAfter, sessionAnswer, sessionTaken, sessionBook, sessionWords, Starts, Takes}
+use Rattle.sessions.proofs.Use.{used-fits}
 use Rattle.lent.specs.Lent.{TakesLent}
 use Rattle.handover.specs.Demands.{Outcome, lent as piece-of, Complete, Learns, Same, Divided, Joins}
 use Rattle.handover.specs.Document000.{Literal, pos, neg, atomOf, Clause, True, CompletePrime, Inferred, Specializes, SameRule, literals, ruleOf, programOf}
@@ -29,7 +30,7 @@ use Rattle.handover.specs.Histories.{tables, by-value, lent, History, st
 use Rattle.handover.proofs.Demands.{pieces-whole}
 use Rattle.handover.proofs.Document000.{learn-program}
 use Rattle.handover.proofs.Specializations.{candidate-specializes, specializes-candidate}
-use Rattle.handover.proofs.Histories.{session-taken}
+use Rattle.handover.proofs.Histories.{session-taken, session-used}
 
 -- ---- the calls
 
@@ -128,6 +129,10 @@ history =
 -- demand 2 of it
 pub history-complete : Complete 1 (transitionWord 1 0 ∷ transitionWord 0 0 ∷ []) (tables both-taken (0 ∷ 1024 ∷ []) (0 ∷ 0 ∷ []))
 history-complete = session-taken history
+
+-- and its totals fit, so that it is not refused with 3
+pub history-fits : totalsFit both-taken ≡ true
+history-fits = used-fits both-taken (session-used history) (omega arith) (omega arith)
 
 -- ---- document 000
 
