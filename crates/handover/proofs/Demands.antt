@@ -21,14 +21,14 @@ use Rattle.answers.specs.Answers.{plain, done, answerIf}
 use Rattle.answers.specs.declared.Answer.{Answer}
 use Rattle.answers.proofs.Laws.{answer-done, words-done}
 use Rattle.learning.specs.Learn.{Run, going, refused, learnRun, runAnswer, runBook, runSheet, Learned}
-use Rattle.joining.specs.Joining.{joinedBook, joinedSheet, joinCode, joinAnswer, bookAfter, sheetAfter}
-use Rattle.handover.specs.Demands.{Outcome, bookUsed, sheetUsed, ZeroFrom, Complete, Learns, Same, Divided, lent, Joins}
+use Rattle.joining.specs.Joining.{Piece, bookIn, sheetIn, joinedBook, joinedSheet, joinCode, joinAnswer, bookAfter, sheetAfter}
+use Rattle.handover.specs.Demands.{Outcome, lent, bookUsed, sheetUsed, ZeroFrom, InUse, Complete, Learns, Same, Divided, Joins}
 use Rattle.handover.proofs.Runs.{Read, After, read-booked, run-read}
 
 -- ---- a table at the front of a slice, and 0 in every word beyond
 
 module _ (s ws : List ℕ) (room count : ℕ) (es : s ≡ filled room ws) (ec : count ≡ length ws) where
-  used-is : take count s ≡ ws
+  pub used-is : take count s ≡ ws
   unfolding filled
   used-is = ap (take count) es ∙ take-at ws (replicate (room - length ws) 0) count (sym ec)
 
@@ -36,10 +36,10 @@ module _ (s ws : List ℕ) (room count : ℕ) (es : s ≡ filled room ws) (ec : 
   unfolding filled
   length-is = ap length es ∙ length-append ws (replicate (room - length ws) 0) ∙ ap (λ (k : ℕ). length ws + k) (length-replicate (room - length ws) 0)
 
-  count-in : count ≤ length s
+  pub count-in : count ≤ length s
   count-in = omega (arith, length-is, ec)
 
-  rest-zero : ZeroFrom count s
+  pub rest-zero : ZeroFrom count s
   unfolding filled
   rest-zero =
       let k : room - length ws ≡ length s - count = omega (arith, length-is, ec) in
@@ -47,38 +47,42 @@ module _ (s ws : List ℕ) (room count : ℕ) (es : s ≡ filled room ws) (ec : 
 
 -- ---- demand 2
 
--- book b in order with the members of ts, and the sheet of ts, each at the front of its slice: the outcome is complete
-module _ (n : ℕ) (small : n ≤ 10) (ts b s : List ℕ) (o : Outcome) (bookRoom sheetRoom : ℕ)
-    (eb : o .book ≡ filled bookRoom b) (cb : o .answer .«book_count» ≡ length b) (es : o .sheet ≡ filled sheetRoom s) (cs : o .answer .«sheet_count» ≡ length s)
+-- book b in order with the members of ts, and the sheet of ts, each in use in its slice
+module _ (n : ℕ) (small : n ≤ 10) (ts b s : List ℕ) (p : Piece)
+    (book-in : p .book-count ≤ length (p .book-words)) (used-book : bookIn p ≡ b) (sheet-in : p .sheet-count ≤ length (p .sheet-words)) (used-sheet : sheetIn p ≡ s)
     (up : increasing b ≡ true) (only : (t : ℕ) → Mem t b → Mem t ts) (each : (t : ℕ) → Mem t ts → Mem t b) (is : s ≡ sheetOf n ts) where
-  used-book : bookUsed o ≡ b
-  used-book = used-is (o .book) b bookRoom (o .answer .«book_count») eb cb
-
-  used-sheet : sheetUsed o ≡ sheetOf n ts
-  used-sheet = used-is (o .sheet) s sheetRoom (o .answer .«sheet_count») es cs ∙ is
-
-  complete : Complete n ts o
-  complete = record {
-    book-in = count-in (o .book) b bookRoom (o .answer .«book_count») eb cb;
+  pub in-use-of : InUse n ts p
+  in-use-of = record {
+    book-in = book-in;
     book-rising = ap increasing used-book ∙ up;
     book-only = λ t m. only t (subst (λ (z : List ℕ). Mem t z) used-book m);
     book-all = λ t m. subst (λ (z : List ℕ). Mem t z) (sym used-book) (each t m);
-    book-rest = rest-zero (o .book) b bookRoom (o .answer .«book_count») eb cb;
-    sheet-in = count-in (o .sheet) s sheetRoom (o .answer .«sheet_count») es cs;
-    is-sheet = used-sheet;
-    sheet-rising = ap increasing used-sheet ∙ sheetOf-good n small ts .sorted;
+    sheet-in = sheet-in;
+    is-sheet = used-sheet ∙ is;
+    sheet-rising = ap increasing (used-sheet ∙ is) ∙ sheetOf-good n small ts .sorted;
     only-prime = λ w m.
-        let k = sheetOf-prime n small ts w (subst (λ (z : List ℕ). Mem w z) used-sheet m) in
+        let k = sheetOf-prime n small ts w (subst (λ (z : List ℕ). Mem w z) (used-sheet ∙ is) m) in
         record {
           is-rule = rule-i n w (k .0);
           is-consistent = k .1 .is-consistent;
           no-other = λ r v e c f. k .1 .no-other r (rule-e n r v) (sym e) c f;
         };
     all-prime = λ w p.
-        subst (λ (z : List ℕ). Mem w z) (sym used-sheet)
+        subst (λ (z : List ℕ). Mem w z) (sym (used-sheet ∙ is))
         (prime-sheetOf n small ts w (rule-e n w (p .is-rule)) (record { is-consistent = p .is-consistent; no-other = λ r v e c f. p .no-other r (rule-i n r v) (sym e) c f }));
-    sheet-rest = rest-zero (o .sheet) s sheetRoom (o .answer .«sheet_count») es cs;
   }
+
+-- the same, each at the front of its slice with 0 beyond: the piece is complete
+pub complete : (n : ℕ) → n ≤ 10 → (ts b s : List ℕ) (p : Piece) (bookRoom sheetRoom : ℕ)
+    → p .book-words ≡ filled bookRoom b → p .book-count ≡ length b → p .sheet-words ≡ filled sheetRoom s → p .sheet-count ≡ length s
+    → increasing b ≡ true → ((t : ℕ) → Mem t b → Mem t ts) → ((t : ℕ) → Mem t ts → Mem t b) → s ≡ sheetOf n ts → Complete n ts p
+complete n small ts b s p bookRoom sheetRoom eb cb es cs up only each is = record {
+  in-use =
+      in-use-of n small ts b s p (count-in (p .book-words) b bookRoom (p .book-count) eb cb) (used-is (p .book-words) b bookRoom (p .book-count) eb cb)
+      (count-in (p .sheet-words) s sheetRoom (p .sheet-count) es cs) (used-is (p .sheet-words) s sheetRoom (p .sheet-count) es cs) up only each is;
+  book-rest = rest-zero (p .book-words) b bookRoom (p .book-count) eb cb;
+  sheet-rest = rest-zero (p .sheet-words) s sheetRoom (p .sheet-count) es cs;
+}
 
 -- what a learn that is not refused has done
 record Held (n : ℕ) (ts : List ℕ) (bookRoom sheetRoom : ℕ) (book sheet : List ℕ) (r : Answer) : Type 0 where
@@ -101,10 +105,10 @@ held n ts bookRoom sheetRoom book sheet r l z =
     go (going b s x y) f e eb es = record { b = b; s = s; x = x; y = y; read = f; answers = e; books = eb; sheets = es }
 
 -- demand 2: what a learn of ts leaves is the complete result for ts
-pub learn-complete : (n : ℕ) (ts : List ℕ) (o : Outcome) → Learns n ts o → Complete n ts o
+pub learn-complete : (n : ℕ) (ts : List ℕ) (o : Outcome) → Learns n ts o → Complete n ts (lent o)
 learn-complete n ts o l =
     let h = held n ts (l .book-room) (l .sheet-room) (o .book) (o .sheet) (o .answer) (l .contract) (l .learned) in
-    complete n (h .read .small) ts (h .b) (h .s) o (l .book-room) (l .sheet-room)
+    complete n (h .read .small) ts (h .b) (h .s) (lent o) (l .book-room) (l .sheet-room)
     (h .books) (ap (λ (a : Answer). a .«book_count») (h .answers)) (h .sheets) (ap (λ (a : Answer). a .«sheet_count») (h .answers))
     (book-increasing (h .b) (book-e n (h .b) (h .read .good) .rising)) (h .read .into) (h .read .all-in) (h .read .is-sheet)
 
@@ -141,10 +145,10 @@ never-ten n ts bookRoom sheetRoom book sheet r l = go (learnRun n bookRoom sheet
 
 -- ---- one complete result
 
--- lists with the same members have one complete result, number for number
-pub complete-same : (n : ℕ) → n ≤ 10 → (ts us : List ℕ) (o q : Outcome) → Complete n ts o → Complete n us q
+-- lists with the same members have one book and one sheet in use, number for number
+pub in-use-same : (n : ℕ) → n ≤ 10 → (ts us : List ℕ) (o q : Outcome) → InUse n ts (lent o) → InUse n us (lent q)
     → ((t : ℕ) → Mem t ts → Mem t us) → ((t : ℕ) → Mem t us → Mem t ts) → Same o q
-complete-same n small ts us o q c d f g = record {
+in-use-same n small ts us o q c d f g = record {
   books = same-book;
   sheets = same-sheet;
   book-counts = sym (length-take-le (o .answer .«book_count») (o .book) (c .book-in)) ∙ ap length same-book ∙ length-take-le (q .answer .«book_count») (q .book) (d .book-in);
@@ -163,7 +167,7 @@ complete-same n small ts us o q c d f g = record {
 pub order-free : (n : ℕ) (ts us : List ℕ) (o q : Outcome) → Learns n ts o → Learns n us q
     → ((t : ℕ) → Mem t ts → Mem t us) → ((t : ℕ) → Mem t us → Mem t ts) → Same o q
 order-free n ts us o q l k f g =
-    complete-same n (learns-small n ts o l) ts us o q (learn-complete n ts o l) (learn-complete n us q k) f g
+    in-use-same n (learns-small n ts o l) ts us o q (learn-complete n ts o l .in-use) (learn-complete n us q k .in-use) f g
 
 -- ---- demand 3
 
@@ -172,46 +176,43 @@ join-code : (c books sheets : ℕ) → (answerIf c (done books sheets 0 0) (plai
 join-code zero books sheets = refl
 join-code (suc c) books sheets = refl
 
--- what a join of the complete results for ps and qs leaves is the complete result for any whole that they divide
-pub join-complete : (n : ℕ) → n ≤ 10 → (ts ps qs : List ℕ) (a b o : Outcome) → Divided ts ps qs → Complete n ps a → Complete n qs b → Joins n a b o → Complete n ts o
+-- what a join of two pieces with the books and sheets of ps and qs leaves is the complete result for any whole that they divide
+pub join-complete : (n : ℕ) → n ≤ 10 → (ts ps qs : List ℕ) (p q : Piece) (o : Outcome) → Divided ts ps qs → InUse n ps p → InUse n qs q → Joins n p q o → Complete n ts (lent o)
 unfolding joinAnswer bookAfter sheetAfter
-join-complete n small ts ps qs a b o v c d j =
-    complete n small ts (union (bookUsed a) (bookUsed b)) (joinSheet n (sheetUsed a) (sheetUsed b)) o (length (j .book-before)) (length (j .sheet-before))
-    (j .contract .book-left ∙ words-done code (filled (length (j .book-before)) (joinedBook (lent a) (lent b))) (j .book-before) zero-code)
-    (ap (λ (q : Answer). q .«book_count») answers)
-    (j .contract .sheet-left ∙ words-done code (filled (length (j .sheet-before)) (joinedSheet n (lent a) (lent b))) (j .sheet-before) zero-code)
-    (ap (λ (q : Answer). q .«sheet_count») answers)
-    (union-increasing (bookUsed a) (bookUsed b) (c .book-rising) (d .book-rising))
-    (λ t m. into t (union-e (bookUsed a) (bookUsed b) t m))
+join-complete n small ts ps qs p q o v c d j =
+    complete n small ts (joinedBook p q) (joinedSheet n p q) (lent o) (length (j .book-before)) (length (j .sheet-before))
+    (j .contract .book-left ∙ words-done code (filled (length (j .book-before)) (joinedBook p q)) (j .book-before) zero-code)
+    (ap (λ (a : Answer). a .«book_count») answers)
+    (j .contract .sheet-left ∙ words-done code (filled (length (j .sheet-before)) (joinedSheet n p q)) (j .sheet-before) zero-code)
+    (ap (λ (a : Answer). a .«sheet_count») answers)
+    (union-increasing (bookIn p) (bookIn q) (c .book-rising) (d .book-rising))
+    (λ t m. into t (union-e (bookIn p) (bookIn q) t m))
     (λ t m. out t (v .covered t m))
     (ap₂ (joinSheet n) (c .is-sheet) (d .is-sheet) ∙ join-members n small ps qs ts (v .covered) (v .left-in) (v .right-in))
   where
     code : ℕ
-    code = joinCode n (lent a) (lent b) (length (j .book-before)) (length (j .sheet-before))
+    code = joinCode n p q (length (j .book-before)) (length (j .sheet-before))
 
     zero-code : code ≡ 0
-    zero-code =
-        sym (join-code code (length (joinedBook (lent a) (lent b))) (length (joinedSheet n (lent a) (lent b))))
-        ∙ sym (ap (λ (q : Answer). q .code) (j .contract .answer))
-        ∙ j .joined
+    zero-code = sym (join-code code (length (joinedBook p q)) (length (joinedSheet n p q))) ∙ sym (ap (λ (a : Answer). a .code) (j .contract .answer)) ∙ j .joined
 
-    answers : o .answer ≡ done (length (joinedBook (lent a) (lent b))) (length (joinedSheet n (lent a) (lent b))) 0 0
-    answers = j .contract .answer ∙ answer-done code (done (length (joinedBook (lent a) (lent b))) (length (joinedSheet n (lent a) (lent b))) 0 0) (plain code 0 0 0) zero-code
+    answers : o .answer ≡ done (length (joinedBook p q)) (length (joinedSheet n p q)) 0 0
+    answers = j .contract .answer ∙ answer-done code (done (length (joinedBook p q)) (length (joinedSheet n p q)) 0 0) (plain code 0 0 0) zero-code
 
-    into : (t : ℕ) → Mem t (bookUsed a) ⊎ Mem t (bookUsed b) → Mem t ts
+    into : (t : ℕ) → Mem t (bookIn p) ⊎ Mem t (bookIn q) → Mem t ts
     into t (inl m) = v .left-in t (c .book-only t m)
     into t (inr m) = v .right-in t (d .book-only t m)
 
-    out : (t : ℕ) → Mem t ps ⊎ Mem t qs → Mem t (union (bookUsed a) (bookUsed b))
-    out t (inl m) = union-l (bookUsed a) (bookUsed b) t (c .book-all t m)
-    out t (inr m) = union-r (bookUsed a) (bookUsed b) t (d .book-all t m)
+    out : (t : ℕ) → Mem t ps ⊎ Mem t qs → Mem t (union (bookIn p) (bookIn q))
+    out t (inl m) = union-l (bookIn p) (bookIn q) t (c .book-all t m)
+    out t (inr m) = union-r (bookIn p) (bookIn q) t (d .book-all t m)
 
 -- demand 3: the pieces learned apart and joined, and the whole learned in any order, agree number for number, and both are what demand 2 defines.
 -- That no state has two successors needs no premise: the calls would have been refused.
 pub pieces-whole : (n : ℕ) (ts ps qs : List ℕ) (whole a b o : Outcome) → Divided ts ps qs
-    → Learns n ts whole → Learns n ps a → Learns n qs b → Joins n a b o → Same o whole × Complete n ts o × Complete n ts whole
+    → Learns n ts whole → Learns n ps a → Learns n qs b → Joins n (lent a) (lent b) o → Same o whole × Complete n ts (lent o) × Complete n ts (lent whole)
 pieces-whole n ts ps qs whole a b o v w l k j =
     let small = learns-small n ts whole w in
     let all = learn-complete n ts whole w in
-    let joined = join-complete n small ts ps qs a b o v (learn-complete n ps a l) (learn-complete n qs b k) j in
-    (complete-same n small ts ts o whole joined all (λ t m. m) (λ t m. m), joined, all)
+    let joined = join-complete n small ts ps qs (lent a) (lent b) o v (learn-complete n ps a l .in-use) (learn-complete n qs b k .in-use) j in
+    (in-use-same n small ts ts o whole (joined .in-use) (all .in-use) (λ t m. m) (λ t m. m), joined, all)

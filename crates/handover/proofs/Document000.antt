@@ -12,7 +12,7 @@ use Rattle.panel.proofs.Words.{Rule, rule-e, rule-i, narrows-antisym}
 use Rattle.prime.specs.Sheets.{pullsIn, applySheet}
 use Rattle.prime.proofs.Laws.{spared-e, spared-i, consistent-e, consistent-i}
 use Rattle.prime.proofs.Apply.{consistent-covers, covers-consistent, pullsIn-e, pullsIn-i, apply-on, rests-e, rests-i, reproduces}
-use Rattle.handover.specs.Demands.{Consistent, Prime, Outcome, sheetUsed, Complete, Learns}
+use Rattle.handover.specs.Demands.{Consistent, Prime, Outcome, lent, sheetUsed, InUse, Learns}
 use Rattle.handover.specs.Document000.{pos, neg, Clause, Met, Follows, Proper, Subsumes, SameRule, ConsistentWith, PrimeRule, CompletePrime, ruleOf, programOf}
 use Rattle.handover.proofs.Demands.{learn-complete, learns-small, learns-booked}
 use Rattle.handover.proofs.Clauses.{covers-met, met-covers, contains-within, within-contains, subsumes-narrows, rule-proper, wordOf, word-rule, word-same}
@@ -35,14 +35,6 @@ subsumes-trans R S T a b = record { one-head = a .one-head ∙ b .one-head; with
 -- what a rule says, a rule that it subsumes says too
 consistent-subsumed : (es : List ℕ) (R S : Clause) → Subsumes R S → ConsistentWith es R → ConsistentWith es S
 consistent-subsumed es R S a f t m c = subst (λ (p : ℕ). on p (next t) ≡ true) (a .one-head) (f t m (λ l k. c l (a .within l k)))
-
-prime-same : (es : List ℕ) (R S : Clause) → SameRule R S → PrimeRule es R → PrimeRule es S
-prime-same es R S a p = record {
-  is-consistent = consistent-subsumed es R S (a .0) (p .is-consistent);
-  no-other = λ T c s.
-      let k = p .no-other T c (subsumes-trans T S R s (a .1)) in
-      (subsumes-trans T R S (k .0) (a .0), subsumes-trans S R T (a .1) (k .1));
-}
 
 -- ---- prime rules (definitions 5 and 6)
 
@@ -89,6 +81,15 @@ module _ (n : ℕ) (small : n ≤ 10) where
         narrows-antisym r w (subsumes-narrows r w (q .1)) (subsumes-narrows w r s);
   }
 
+-- one rule written in two ways is prime both ways
+prime-same : (es : List ℕ) (R S : Clause) → SameRule R S → PrimeRule es R → PrimeRule es S
+prime-same es R S a p = record {
+  is-consistent = consistent-subsumed es R S (a .0) (p .is-consistent);
+  no-other = λ T c s.
+      let k = p .no-other T c (subsumes-trans T S R s (a .1)) in
+      (subsumes-trans T R S (k .0) (a .0), subsumes-trans S R T (a .1) (k .1));
+}
+
 -- ---- the complete prime program (definition 7)
 
 program-e : (s : List ℕ) (R : Clause) → Mem R (programOf s) → (w : ℕ) × Mem w s × (R ≡ ruleOf w)
@@ -134,8 +135,8 @@ learn-program n ts o l = record {
     small : n ≤ 10
     small = learns-small n ts o l
 
-    c : Complete n ts o
-    c = learn-complete n ts o l
+    c : InUse n ts (lent o)
+    c = learn-complete n ts o l .in-use
 
     pulled : (t : ℕ) → Mem t ts → (p : ℕ) → p < n → on p (next t) ≡ pullsIn (sheetUsed o) (state t) p
     pulled t m p k =

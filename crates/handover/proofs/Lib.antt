@@ -1,6 +1,9 @@
 pub mod Runs
 pub mod Demands
 pub mod Bench
+pub mod Takes
+pub mod Histories
+pub mod Instances
 pub mod Clauses
 pub mod Document000
 pub mod Specializations

@@ -4,13 +4,13 @@ use mathlib.Core.Logic.{_⊎_}
 use mathlib.Core.Bool.{true}
 use mathlib.Core.List.{List, List·Memᴰ as Mem}
 use Prim.Native.Nat.{ℕ, _-_, _≤_}
-use lib.ListN.{length, take, drop, replicate}
+use lib.ListN.{length, drop, replicate}
 use Rattle.table.specs.Lists.{increasing}
 use Rattle.panel.specs.Rules.{head, validRule, covers, contains}
 use Rattle.prime.specs.Sheets.{negative, sheetOf}
 use Rattle.answers.specs.declared.Answer.{Answer}
 use Rattle.learning.specs.Learn.{Learned}
-use Rattle.joining.specs.Joining.{Piece, piece, Joined}
+use Rattle.joining.specs.Joining.{Piece, piece, bookIn, sheetIn, Joined}
 
 -- ---- prime, for the words ts themselves
 
@@ -32,13 +32,17 @@ pub record Outcome : Type 0 where
   pub sheet : List ℕ
   pub answer : Answer
 
+-- book and sheet as a later call is lent them: what the call left, with the counts that it answered
+abbrev pub lent : Outcome → Piece
+lent o = piece (o .book) (o .answer .«book_count») (o .sheet) (o .answer .«sheet_count»)
+
 -- the words of the book in use
 abbrev pub bookUsed : Outcome → List ℕ
-bookUsed o = take (o .answer .«book_count») (o .book)
+bookUsed o = bookIn (lent o)
 
 -- the words of the sheet in use
 abbrev pub sheetUsed : Outcome → List ℕ
-sheetUsed o = take (o .answer .«sheet_count») (o .sheet)
+sheetUsed o = sheetIn (lent o)
 
 -- ---- demand 2
 
@@ -46,19 +50,23 @@ sheetUsed o = take (o .answer .«sheet_count») (o .sheet)
 abbrev pub ZeroFrom : ℕ → List ℕ → Type 0
 ZeroFrom count s = drop count s ≡ replicate (length s - count) 0
 
--- the complete result for the words ts: the book lists them, each once and in order; the sheet lists all their prime rules and nothing else
-pub record Complete (n : ℕ) (ts : List ℕ) (o : Outcome) : Type 0 where
-  pub book-in : o .answer .«book_count» ≤ length (o .book)
-  pub book-rising : increasing (bookUsed o) ≡ true
-  pub book-only : (t : ℕ) → Mem t (bookUsed o) → Mem t ts
-  pub book-all : (t : ℕ) → Mem t ts → Mem t (bookUsed o)
-  pub book-rest : ZeroFrom (o .answer .«book_count») (o .book)
-  pub sheet-in : o .answer .«sheet_count» ≤ length (o .sheet)
-  pub is-sheet : sheetUsed o ≡ sheetOf n ts
-  pub sheet-rising : increasing (sheetUsed o) ≡ true
-  pub only-prime : (w : ℕ) → Mem w (sheetUsed o) → Prime n ts w
-  pub all-prime : (w : ℕ) → Prime n ts w → Mem w (sheetUsed o)
-  pub sheet-rest : ZeroFrom (o .answer .«sheet_count») (o .sheet)
+-- what is in use in p is the book and the sheet of the words ts: the book lists them, each once and in order; the sheet lists all their prime rules and nothing else
+pub record InUse (n : ℕ) (ts : List ℕ) (p : Piece) : Type 0 where
+  pub book-in : p .book-count ≤ length (p .book-words)
+  pub book-rising : increasing (bookIn p) ≡ true
+  pub book-only : (t : ℕ) → Mem t (bookIn p) → Mem t ts
+  pub book-all : (t : ℕ) → Mem t ts → Mem t (bookIn p)
+  pub sheet-in : p .sheet-count ≤ length (p .sheet-words)
+  pub is-sheet : sheetIn p ≡ sheetOf n ts
+  pub sheet-rising : increasing (sheetIn p) ≡ true
+  pub only-prime : (w : ℕ) → Mem w (sheetIn p) → Prime n ts w
+  pub all-prime : (w : ℕ) → Prime n ts w → Mem w (sheetIn p)
+
+-- the complete result for the words ts: they are what is in use, and every word beyond a count is 0
+pub record Complete (n : ℕ) (ts : List ℕ) (p : Piece) : Type 0 where
+  pub in-use : InUse n ts p
+  pub book-rest : ZeroFrom (p .book-count) (p .book-words)
+  pub sheet-rest : ZeroFrom (p .sheet-count) (p .sheet-words)
 
 -- a learn of the words ts in slices of some room ended with o, and was not refused
 pub record Learns (n : ℕ) (ts : List ℕ) (o : Outcome) : Type 0 where
@@ -82,13 +90,9 @@ pub record Divided (ts ps qs : List ℕ) : Type 0 where
   pub right-in : (t : ℕ) → Mem t qs → Mem t ts
   pub covered : (t : ℕ) → Mem t ts → Mem t ps ⊎ Mem t qs
 
--- a piece as it is lent to join: what a learn left, with the counts that it answered
-abbrev pub lent : Outcome → Piece
-lent o = piece (o .book) (o .answer .«book_count») (o .sheet) (o .answer .«sheet_count»)
-
--- a join of what two learns left, in slices of some room and with any words in them before, ended with o, and was not refused
-pub record Joins (n : ℕ) (a b o : Outcome) : Type 0 where
+-- a join of the pieces p and q, in slices of some room and with any words in them before, ended with o, and was not refused
+pub record Joins (n : ℕ) (p q : Piece) (o : Outcome) : Type 0 where
   pub book-before : List ℕ
   pub sheet-before : List ℕ
-  pub contract : Joined n (lent a) (lent b) book-before sheet-before (o .answer) (o .book) (o .sheet)
+  pub contract : Joined n p q book-before sheet-before (o .answer) (o .book) (o .sheet)
   pub joined : o .answer .code ≡ 0

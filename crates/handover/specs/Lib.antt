@@ -1,3 +1,4 @@
 pub mod Demands
+pub mod Histories
 pub mod Bench
 pub mod Document000

@@ -30,7 +30,7 @@ use Rattle.program.specs.Program.{refusalLine, ifRoom, tooLong, entryCode, entr
 use Rattle.program.proofs.LearnLaws.{learn-writable}
 use Rattle.program.proofs.Promises.{never-12}
 use Rattle.program.proofs.AnswerLaws.{run-answers}
-use Rattle.handover.specs.Demands.{Outcome, sheetUsed, Complete}
+use Rattle.handover.specs.Demands.{Outcome, lent, sheetUsed, Complete}
 use Rattle.handover.proofs.Demands.{learn-complete}
 use Rattle.promises.specs.Printed.{Recorded, Learnable, Refused, too-long, faulty, too-many, contradicted, too-large, Prints, Printed, a-sheet, a-refusal, Rooms}
 use Rattle.promises.proofs.Learning.{Ended, learn-ended}
@@ -62,7 +62,7 @@ module _ (n : ℕ) (ts b s : List ℕ) (x y : ℕ) (e : learnRun n 1024 1024 ts 
   abbrev left : Outcome
   left = record { book = filled 1024 b; sheet = filled 1024 s; answer = done (length b) (length s) x y }
 
-  left-complete : Complete n ts left
+  left-complete : Complete n ts (lent left)
   unfolding runAnswer runBook runSheet
   left-complete =
       learn-complete n ts left (record {
@@ -136,7 +136,7 @@ unfolding runText
 said t out out′ r n (refused c p) q e f = a-refusal (record { code = c; place = p; refused = q; prints = prints-of out out′ (refusalLine c p) r e f })
 said t out out′ r n (going b s x y) q e f =
     let ts = q .0 in
-    let k = left-complete n ts b s x y (q .3) in
+    let k = left-complete n ts b s x y (q .3) .in-use in
     let is = left-sheet n ts b s x y (q .3) in
     a-sheet (record {
       n = n;

@@ -1,0 +1,199 @@
+-- One instance of each premise of the theorems here: two short recordings with the same rows, one that contradicts itself, one too long, one too large for the list, and the empty text.
+use mathlib.Core.Path.{_≡_, refl, sym, ap, _∙_, subst}
+use mathlib.Core.Bool.{cond}
+use mathlib.Core.List.{List, [], _∷_, List·Memᴰ as Mem, List·Memᴰ·head as here, List·Memᴰ·tail as there, List·Memᴰ·not-nil, List·Memᴰ·eq-of-singleton}
+use Prim.Native.Nat.{ℕ, _≤_, _<_}
+use native.Mathlib.Omega.{arith}
+use lib.ListN.{length, take, replicate, length-replicate}
+use Rattle.table.proofs.Counting.{parted}
+use Rattle.panel.specs.Masks.{on, relays, allOn, allOff}
+use Rattle.panel.specs.Rules.{ruleWord, rules}
+use Rattle.panel.specs.Transitions.{transitionWord, state, next}
+use Rattle.prime.specs.Sheets.{consistent, least, sheetWhere, sheetOf}
+use Rattle.answers.specs.Answers.{wordsIf}
+use Rattle.fields.specs.Bytes.{markOf, run, same}
+use Rattle.fields.specs.Texts.{linesOf, body}
+use Rattle.fields.specs.Values.{cubeOf, digits, numberOf}
+use Rattle.fields.specs.Fields.{fieldsFrom, fieldsIn}
+use Rattle.lines.specs.Lines.{keyOf, typedOf, rowLine, classOf, ofFields, lineOf}
+use Rattle.lines.specs.declared.Kind.the-variants.{Recording}
+use Rattle.headers.specs.Headers.{openOf, fitsOf, readyOf}
+use Rattle.headers.specs.Verdicts.{finishOf, judgeLines, judgeOf}
+use Rattle.headers.specs.declared.Verdict.the-variants.{Good, Bad}
+use Rattle.headers.proofs.PlaceLaws.{bad-iff-place}
+use Rattle.recording.specs.Rows.{matchesOf, wordsBelow, linesWords, textWords}
+use Rattle.recording.specs.Reading.{readList}
+use Rattle.learning.specs.Learn.{runBook, runSheet}
+use Rattle.writing.specs.Writing.{written}
+use Rattle.program.specs.Program.{tooLong, entryCode, learnedRun, printed, Runs}
+use Rattle.promises.specs.Printed.{Recorded, Learnable, SameRows, Contradicted, Refused, too-long, faulty, too-many, contradicted, SheetPrinted, RefusalPrinted, Rooms}
+use Rattle.promises.proofs.Exactly.{sheet-printed, refusal-printed}
+use Rattle.promises.proofs.OneText.{one-text}
+
+-- ---- texts
+
+-- the rows "1 0" and "0 0":
+--   .i 1⏎.o 1⏎1 0⏎0 0⏎.e⏎
+abbrev two-rows : List ℕ
+two-rows = 46 ∷ 105 ∷ 32 ∷ 49 ∷ 10 ∷ 46 ∷ 111 ∷ 32 ∷ 49 ∷ 10 ∷ 49 ∷ 32 ∷ 48 ∷ 10 ∷ 48 ∷ 32 ∷ 48 ∷ 10 ∷ 46 ∷ 101 ∷ 10 ∷ []
+
+-- the same rows, with a dash, a comment and a repeat, and laid out in another way:
+--   .o 1⏎.i 1⏎- 0 # both⏎0 0⏎.end
+abbrev one-dash : List ℕ
+one-dash = 46 ∷ 111 ∷ 32 ∷ 49 ∷ 10 ∷ 46 ∷ 105 ∷ 32 ∷ 49 ∷ 10 ∷ 45 ∷ 32 ∷ 48 ∷ 32 ∷ 35 ∷ 32 ∷ 98 ∷ 111 ∷ 116 ∷ 104 ∷ 10 ∷ 48 ∷ 32 ∷ 48 ∷ 10 ∷ 46 ∷ 101 ∷ 110 ∷ 100 ∷ []
+
+-- K4 as a recording: "0 0" and then "0 1":
+--   .i 1⏎.o 1⏎0 0⏎0 1⏎.e⏎
+abbrev two-ways : List ℕ
+two-ways = 46 ∷ 105 ∷ 32 ∷ 49 ∷ 10 ∷ 46 ∷ 111 ∷ 32 ∷ 49 ∷ 10 ∷ 48 ∷ 32 ∷ 48 ∷ 10 ∷ 48 ∷ 32 ∷ 49 ∷ 10 ∷ 46 ∷ 101 ∷ 10 ∷ []
+
+-- 1,025 words:
+--   .i 10⏎.o 10⏎---------- 0000000000⏎0000000000 0000000000⏎.e⏎
+abbrev too-many-rows : List ℕ
+too-many-rows = 46 ∷ 105 ∷ 32 ∷ 49 ∷ 48 ∷ 10 ∷ 46 ∷ 111 ∷ 32 ∷ 49 ∷ 48 ∷ 10 ∷ 45 ∷ 45 ∷ 45 ∷ 45 ∷ 45 ∷ 45 ∷ 45 ∷ 45 ∷ 45 ∷ 45 ∷ 32 ∷ 48 ∷ 48 ∷ 48 ∷ 48 ∷ 48 ∷ 48 ∷ 48 ∷ 48 ∷ 48 ∷ 48 ∷ 10 ∷ 48 ∷ 48 ∷ 48 ∷ 48 ∷ 48 ∷ 48 ∷ 48 ∷ 48 ∷ 48 ∷ 48 ∷ 32 ∷ 48 ∷ 48 ∷ 48 ∷ 48 ∷ 48 ∷ 48 ∷ 48 ∷ 48 ∷ 48 ∷ 48 ∷ 10 ∷ 46 ∷ 101 ∷ 10 ∷ []
+
+-- their words, and what their layout is judged to be
+words-are : (textWords two-rows ≡ 1024 ∷ 0 ∷ []) × (textWords one-dash ≡ 0 ∷ 1024 ∷ 0 ∷ []) × (textWords two-ways ≡ 0 ∷ 1 ∷ [])
+unfolding on relays allOn allOff transitionWord markOf run same linesOf body cubeOf digits numberOf fieldsFrom fieldsIn keyOf typedOf rowLine classOf ofFields lineOf openOf fitsOf readyOf finishOf judgeLines judgeOf matchesOf wordsBelow linesWords textWords
+words-are = (refl, refl, refl)
+
+layouts-are : (judgeOf Recording two-rows ≡ Good 1) × (judgeOf Recording one-dash ≡ Good 1) × (judgeOf Recording two-ways ≡ Good 1) × (judgeOf Recording too-many-rows ≡ Good 10) × (judgeOf Recording [] ≡ Bad 1)
+unfolding on relays allOn allOff transitionWord markOf run same linesOf body cubeOf digits numberOf fieldsFrom fieldsIn keyOf typedOf rowLine classOf ofFields lineOf openOf fitsOf readyOf finishOf judgeLines judgeOf matchesOf wordsBelow linesWords textWords
+layouts-are = (refl, refl, refl, refl, refl)
+
+long-words : 1024 < length (textWords too-many-rows)
+unfolding on relays allOn allOff transitionWord markOf run same linesOf body cubeOf digits numberOf fieldsFrom fieldsIn keyOf typedOf rowLine classOf ofFields lineOf openOf fitsOf readyOf finishOf judgeLines judgeOf matchesOf wordsBelow linesWords textWords
+long-words = omega arith
+
+-- ---- the recordings
+
+-- a panel of one relay has three rules, so no words have more prime ones
+three-rules : length (rules 1) ≡ 3
+unfolding rules ruleWord allOff relays on
+three-rules = refl
+
+one-relay-fits : (ps : List ℕ) → length (sheetOf 1 ps) ≤ 1024
+unfolding sheetOf sheetWhere
+one-relay-fits ps = omega (arith, parted (least 1 (consistent ps)) (rules 1), three-rules)
+
+-- "1 to 0" and "0 to 0" have one successor
+zero-next : (t : ℕ) → Mem t (1024 ∷ 0 ∷ []) → next t ≡ 0
+unfolding next
+zero-next t (here e) = ap next e
+zero-next t (there (here e)) = ap next e
+zero-next t (there (there m)) = absurd (List·Memᴰ·not-nil m)
+
+pub two-rows-recorded : Recorded two-rows 1 (1024 ∷ 0 ∷ [])
+two-rows-recorded = record { short = omega arith; good = layouts-are .0; words = sym (words-are .0); listed = omega arith }
+
+pub two-rows-learnable : Learnable 1 (1024 ∷ 0 ∷ [])
+two-rows-learnable = record {
+  one-next = λ t u m k e. zero-next t m ∙ sym (zero-next u k);
+  fits = λ ps rest e. one-relay-fits ps;
+}
+
+-- the other text has the same rows
+turned : (w : ℕ) → Mem w (1024 ∷ 0 ∷ []) → Mem w (0 ∷ 1024 ∷ 0 ∷ [])
+turned w (here e) = there (here e)
+turned w (there (here e)) = here e
+turned w (there (there m)) = absurd (List·Memᴰ·not-nil m)
+
+back : (w : ℕ) → Mem w (0 ∷ 1024 ∷ 0 ∷ []) → Mem w (1024 ∷ 0 ∷ [])
+back w (here e) = there (here e)
+back w (there (here e)) = here e
+back w (there (there (here e))) = there (here e)
+back w (there (there (there m))) = absurd (List·Memᴰ·not-nil m)
+
+pub same-rows : SameRows two-rows one-dash
+same-rows = record {
+  there = λ w m. subst (λ (z : List ℕ). Mem w z) (sym (words-are .1)) (turned w (subst (λ (z : List ℕ). Mem w z) (words-are .0) m));
+  back = λ w m. subst (λ (z : List ℕ). Mem w z) (sym (words-are .0)) (back w (subst (λ (z : List ℕ). Mem w z) (words-are .1) m));
+}
+
+pub one-dash-recorded : Recorded one-dash 1 (0 ∷ 1024 ∷ 0 ∷ [])
+one-dash-recorded = record { short = omega arith; good = layouts-are .1; words = sym (words-are .1); listed = omega arith }
+
+pub one-dash-learnable : Learnable 1 (0 ∷ 1024 ∷ 0 ∷ [])
+one-dash-learnable = record {
+  one-next = λ t u m k e. zero-next t (back t m) ∙ sym (zero-next u (back u k));
+  fits = λ ps rest e. one-relay-fits ps;
+}
+
+-- ---- the program's slices and its runs
+
+-- the list, the book and the sheet of the program, and its output
+abbrev words : List ℕ
+words = replicate 1024 0
+
+abbrev output : List ℕ
+output = replicate 24576 0
+
+pub rooms : Rooms words words words output
+rooms = record {
+  list-room = length-replicate {A = ℕ} 1024 0;
+  book-room = length-replicate {A = ℕ} 1024 0;
+  sheet-room = length-replicate {A = ℕ} 1024 0;
+  out-room = omega (arith, length-replicate {A = ℕ} 24576 0);
+}
+
+-- what is printed for a text
+abbrev answer : List ℕ → List ℕ
+answer t = printed t (length words) (length words) (length words) (length output)
+
+-- a run: what the contract says, word for word
+runs : (t : List ℕ) → Runs t words words words output (cond (tooLong t) words (readList t (length words)))
+    (wordsIf (entryCode t (length words)) (runBook (length words) (learnedRun t (length words) (length words) (length words))) words)
+    (wordsIf (entryCode t (length words)) (runSheet (length words) (learnedRun t (length words) (length words) (length words))) words)
+    (written output 0 (answer t)) (length (answer t))
+runs t = record { long = refl; bytes = refl; list-words = refl; book-words = refl; sheet-words = refl }
+
+-- both recordings are answered with their sheet
+pub two-rows-printed : SheetPrinted two-rows output (written output 0 (answer two-rows)) (length (answer two-rows))
+two-rows-printed = sheet-printed rooms (runs two-rows) 1 _ two-rows-recorded two-rows-learnable
+
+pub one-dash-printed : SheetPrinted one-dash output (written output 0 (answer one-dash)) (length (answer one-dash))
+one-dash-printed = sheet-printed rooms (runs one-dash) 1 _ one-dash-recorded one-dash-learnable
+
+-- with the same bytes
+pub one-text-printed : (length (answer two-rows) ≡ length (answer one-dash))
+    × (take (length (answer two-rows)) (written output 0 (answer two-rows)) ≡ take (length (answer one-dash)) (written output 0 (answer one-dash)))
+one-text-printed = one-text two-rows-printed one-dash-printed one-size same-rows
+  where
+    one-size : two-rows-printed .n ≡ one-dash-printed .n
+    one-size = sized (sym (two-rows-printed .recorded .good) ∙ layouts-are .0) ∙ sym (sized (sym (one-dash-printed .recorded .good) ∙ layouts-are .1))
+      where
+        sized : {m : ℕ} → Good m ≡ Good 1 → m ≡ 1
+        sized e = cc
+
+-- ---- refusals
+
+-- 7 at word 1: "0 to 1" after "0 to 0"
+pub two-ways-contradicted : Contradicted 1 (0 ∷ 1 ∷ []) 1
+unfolding state next
+two-ways-contradicted = record {
+  ps = 0 ∷ [];
+  w = 1;
+  u = 0;
+  before = record { rest = []; whole = refl; number = refl };
+  learned = record { one-next = λ t u m k e. ap next (List·Memᴰ·eq-of-singleton m ∙ sym (List·Memᴰ·eq-of-singleton k)); fits = λ ps rest e. one-relay-fits ps };
+  earlier = here refl;
+  same-state = refl;
+  other-next = λ e. omega (arith, e);
+}
+
+-- one text for each code but 9
+pub long-refused : Refused (replicate 24577 0) 13 0
+long-refused = too-long (omega (arith, length-replicate {A = ℕ} 24577 0))
+
+pub empty-refused : Refused [] 11 1
+empty-refused = faulty 1 (omega arith) (bad-iff-place Recording [] 1 .0 (layouts-are .4))
+
+pub many-refused : Refused too-many-rows 8 0
+many-refused = too-many 10 (omega arith) (layouts-are .3) long-words
+
+pub two-ways-refused : Refused two-ways 7 1
+two-ways-refused = contradicted 1 1 (0 ∷ 1 ∷ []) (record { short = omega arith; good = layouts-are .2; words = sym (words-are .2); listed = omega arith }) two-ways-contradicted
+
+-- and the line that is printed for the last
+pub two-ways-printed : RefusalPrinted two-ways output (written output 0 (answer two-ways)) (length (answer two-ways))
+two-ways-printed = record { code = 7; place = 1; refused = two-ways-refused; prints = refusal-printed rooms (runs two-ways) 7 1 two-ways-refused }
