@@ -1,6 +1,10 @@
 pub mod Runs
+pub mod BookOf
+pub mod Stopping
+pub mod Learning
 pub mod Demands
 pub mod Bench
 pub mod Clauses
 pub mod Document000
 pub mod Specializations
+pub mod LearnInstances

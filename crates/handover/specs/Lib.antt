@@ -1,3 +1,4 @@
 pub mod Demands
 pub mod Bench
 pub mod Document000
+pub mod Learning
