@@ -2,7 +2,7 @@
 use mathlib.Core.Path.{_≡_, refl, sym, ap, _∙_}
 use mathlib.Core.Logic.{_⊎_, inl, inr}
 use mathlib.Core.Bool.{Bool, true, false, false≢true}
-use mathlib.Core.List.{List, [], _∷_, List·Memᴰ as Mem, List·Memᴰ·head as here, List·Memᴰ·tail as there, List·Memᴰ·cases-cons, Memᴰ·cast}
+use mathlib.Core.List.{List, [], _∷_, _++_, List·Memᴰ as Mem, List·Memᴰ·head as here, List·Memᴰ·tail as there, List·Memᴰ·cases-cons, List·Memᴰ·append-cases, List·Memᴰ·eq-of-singleton, Memᴰ·append-left, Memᴰ·append-right, Memᴰ·cast}
 use Prim.Native.Nat.{ℕ, suc, _≤_}
 use native.Mathlib.Omega.{arith}
 use lib.ListN.{length}
@@ -56,7 +56,27 @@ book-more ts us f =
     (λ t m. filter-i (λ u. has u ts) (book-to us t (f t m)) (has-i t ts m)) in
     omega (arith, ap length e, parted (λ t. has t ts) (bookOf us))
 
--- and no more words than the list
+-- a word that is no repeat makes it longer by one
+pub book-longer : (ts : List ℕ) (w : ℕ) → (Mem w ts → ⊥) → length (bookOf (ts ++ w ∷ [])) ≡ suc (length (bookOf ts))
+book-longer ts w f =
+    ap length (book-is (ts ++ w ∷ []) (insert w (bookOf ts)) (insert-increasing w (bookOf ts) (book-rises ts) (λ m. f (book-from ts w m))) into out)
+    ∙ insert-length w (bookOf ts)
+  where
+    into : (t : ℕ) → Mem t (insert w (bookOf ts)) → Mem t (ts ++ w ∷ [])
+    into t m = go (insert-e w (bookOf ts) t m)
+      where
+        go : (t ≡ w) ⊎ Mem t (bookOf ts) → Mem t (ts ++ w ∷ [])
+        go (inl e) = Memᴰ·append-right ts (here e)
+        go (inr k) = Memᴰ·append-left (w ∷ []) (book-from ts t k)
+
+    out : (t : ℕ) → Mem t (ts ++ w ∷ []) → Mem t (insert w (bookOf ts))
+    out t m = go (List·Memᴰ·append-cases ts m)
+      where
+        go : Mem t ts ⊎ Mem t (w ∷ []) → Mem t (insert w (bookOf ts))
+        go (inl k) = insert-old w (book-to ts t k)
+        go (inr k) = Memᴰ·cast (List·Memᴰ·eq-of-singleton k) (insert-new w (bookOf ts))
+
+-- a book has no more words than the list
 pub book-few : (ts : List ℕ) → length (bookOf ts) ≤ length ts
 book-few [] = omega arith
 book-few (u ∷ ts) = go (has u ts) (book-few ts)

@@ -21,6 +21,7 @@ does : (n : ℕ) (ts : List ℕ) (bookRoom sheetRoom : ℕ)
     → Learned n ts bookRoom sheetRoom (runBook bookRoom (learnRun n bookRoom sheetRoom ts)) (runSheet sheetRoom (learnRun n bookRoom sheetRoom ts)) (runAnswer (learnRun n bookRoom sheetRoom ts))
 does n ts bookRoom sheetRoom = record { answer = refl; book-words = refl; sheet-words = refl }
 
+-- three lists that nothing stops, and one or two for each refusal
 pub record Instances : Type 0 where
   -- K6 in room 4
   pub k6 : Learnable 2 (transitionWord 3 0 ∷ []) 1 4

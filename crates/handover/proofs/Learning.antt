@@ -2,7 +2,7 @@
 use mathlib.Core.Path.{_≡_, refl, sym, ap, _∙_, subst}
 use mathlib.Core.Logic.{_⊎_, inl, inr, _↔_}
 use mathlib.Core.Bool.{Bool, true, false, false≢true}
-use mathlib.Core.List.{List, [], _∷_, _++_, List·Memᴰ as Mem, List·Memᴰ·append-cases, List·Memᴰ·eq-of-singleton, Memᴰ·append-left, Memᴰ·cast, append-assoc, append-nil, nil≢cons, head-eq-of-cons-eq, tail-eq-of-cons-eq}
+use mathlib.Core.List.{List, [], _∷_, _++_, List·Memᴰ as Mem, List·Memᴰ·head as here, List·Memᴰ·append-cases, List·Memᴰ·eq-of-singleton, Memᴰ·append-left, Memᴰ·append-right, Memᴰ·cast, append-assoc, append-nil, nil≢cons, head-eq-of-cons-eq, tail-eq-of-cons-eq}
 use Prim.Native.Nat.{ℕ, _+_, _≤_, _<_}
 use native.Mathlib.Omega.{arith}
 use lib.ListN.{length}
@@ -25,7 +25,7 @@ use Rattle.learning.proofs.Ways.{Opening, two, nine-at-once, opened, Way, six, 
 use Rattle.handover.specs.Demands.{Outcome, bookUsed, Complete}
 use Rattle.handover.specs.Learning.{bookOf, Learnable, Before, Agrees, Stops, invalid, contradicted, book-full, sheet-full, LearnRefused, no-panel, no-room, at-word}
 use Rattle.handover.proofs.Runs.{Read, read-booked, start-read, again, one-more, run-words}
-use Rattle.handover.proofs.BookOf.{book-is, book-more}
+use Rattle.handover.proofs.BookOf.{book-is, book-more, book-longer}
 use Rattle.handover.proofs.Stopping.{learnable-not-refused, learn-refused-once}
 
 -- the book of the words read is the one that learn keeps
@@ -183,6 +183,19 @@ repeat-passed n ps w bookRoom sheetRoom l m = record {
           l .sheets-fit ps [] (sym (append-nil ps)),
         )
     go qs (inr k) = l .sheets-fit qs (k .0) (k .1)
+
+-- 8 as it is met at a word: its state is not recorded before it, and the book of the words before it fills its slice
+pub full-exactly : (n : ℕ) (ps : List ℕ) (w bookRoom sheetRoom : ℕ) → Learnable n ps bookRoom sheetRoom → Agrees n ps w
+    → (bookRoom < length (bookOf (ps ++ w ∷ []))) ↔ (((u : ℕ) → Mem u ps → state u ≡ state w → ⊥) × (length (bookOf ps) ≡ bookRoom))
+full-exactly n ps w bookRoom sheetRoom l a = (
+  λ g.
+      let new : Mem w ps → ⊥ = λ m. omega (arith, g, repeat-passed n ps w bookRoom sheetRoom l m .book-fits) in
+      (λ u m e. new (Memᴰ·cast (sym (same-transition u w e (agree u m e))) m), omega (arith, g, l .book-fits, book-longer ps w new)),
+  λ k. omega (arith, k .1, book-longer ps w (λ m. k .0 w m refl)),
+)
+  where
+    agree : (u : ℕ) → Mem u ps → state u ≡ state w → next u ≡ next w
+    agree u m e = a .one-next u w (Memᴰ·append-left (w ∷ []) m) (Memᴰ·append-right ps (here refl)) e
 
 -- ---- over the contract of learn
 

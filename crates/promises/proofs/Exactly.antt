@@ -1,5 +1,6 @@
 -- The definitions leave no choice: a refusal has one code and one place, and a sheet is printed exactly where nothing is refused.
 use mathlib.Core.Path.{_≡_, refl, sym, ap, _∙_, subst}
+use mathlib.Core.Logic.{_↔_}
 use mathlib.Core.List.{List, _++_}
 use Prim.Native.Nat.{ℕ, _≤_, _<_}
 use native.Mathlib.Omega.{arith}
@@ -19,6 +20,7 @@ use Rattle.handover.specs.Learning.{OneNext, Learnable, LearnRefused}
 use Rattle.handover.proofs.Stopping.{learnable-not-refused, learn-refused-once}
 use Rattle.promises.specs.Printed.{Recorded, Refused, too-long, faulty, too-many, contradicted, too-large, Prints, SheetPrinted, Printed, a-sheet, a-refusal, Rooms}
 use Rattle.promises.proofs.Learning.{words-learnable}
+use Rattle.promises.proofs.OneLine.{line-unique, line-not-sheet}
 use Rattle.promises.proofs.TextToText.{text-to-text}
 
 -- ---- a refusal has one code and one place
@@ -125,3 +127,13 @@ module _ {t list book sheet out l b s out′ : List ℕ} {r : ℕ} (rooms : Room
       go (a-refusal q) =
           let k = refused-once t (q .code) (q .place) (q .refused) c p f in
           subst (λ (z : ℕ). Prints out out′ r (refusalLine c z)) (k .1) (subst (λ (z : ℕ). Prints out out′ r (refusalLine z (q .place))) (k .0) (q .prints))
+
+  -- and back: what the line tells is how 01 refuses the text
+  pub refusal-exactly : (c p : ℕ) → Prints out out′ r (refusalLine c p) ↔ Refused t c p
+  refusal-exactly c p = (λ f. go f (text-to-text rooms runs), λ f. refusal-printed c p f)
+    where
+      go : Prints out out′ r (refusalLine c p) → Printed t out out′ r → Refused t c p
+      go f (a-sheet q) = absurd (line-not-sheet c p (q .n) (q .s) (sym (f .text) ∙ q .prints .text))
+      go f (a-refusal q) =
+          let k = line-unique (q .code) (q .place) c p (sym (q .prints .text) ∙ f .text) in
+          subst (λ (z : ℕ). Refused t c z) (k .1) (subst (λ (z : ℕ). Refused t z (q .place)) (k .0) (q .refused))
