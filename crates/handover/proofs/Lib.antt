@@ -1,4 +1,7 @@
 pub mod Runs
+pub mod BookOf
+pub mod Stopping
+pub mod Learning
 pub mod Demands
 pub mod Bench
 pub mod Takes
@@ -7,3 +10,4 @@ pub mod Instances
 pub mod Clauses
 pub mod Document000
 pub mod Specializations
+pub mod LearnInstances

@@ -1,18 +1,16 @@
 -- Learn's run, word by word: while nothing is refused, the book has the words read, and the sheet is theirs.
 use mathlib.Core.Path.{_≡_, refl, sym, ap, ap₂, _∙_, subst}
 use mathlib.Core.Logic.{_⊎_, inl, inr}
-use mathlib.Core.Bool.{Bool, true, false, not}
-use mathlib.Core.List.{List, [], _∷_, _++_, List·Memᴰ as Mem, List·Memᴰ·head as here, List·Memᴰ·tail as there, List·Memᴰ·cases-cons, List·Memᴰ·append-cases, List·Memᴰ·eq-of-singleton, Memᴰ·append-left, Memᴰ·append-right, Memᴰ·cast, append-assoc, append-nil}
+use mathlib.Core.Bool.{Bool, true, false}
+use mathlib.Core.List.{List, [], _∷_, _++_, List·Memᴰ as Mem, List·Memᴰ·head as here, List·Memᴰ·tail as there, List·Memᴰ·cases-cons, List·Memᴰ·append-cases, List·Memᴰ·eq-of-singleton, Memᴰ·append-left, Memᴰ·append-right, Memᴰ·cast}
 use Prim.Native.Nat.{ℕ, _+_, _≤_}
 use native.Mathlib.Omega.{arith}
-use lib.Dec.{ltb}
 use lib.ListN.{length}
 use borrow.Author.Tests.{eq-eqb, le-ltb}
 use Rattle.table.specs.Lists.{has, insert, increasing}
 use Rattle.table.specs.Surgery.{oneMoreIf}
 use Rattle.table.proofs.Counting.{has-e}
 use Rattle.table.proofs.Inserting.{insert-e, insert-new, insert-old}
-use Rattle.panel.specs.Masks.{panelSize}
 use Rattle.panel.specs.Transitions.{state, next, validTransition}
 use Rattle.prime.specs.Books.{goodBook, booked}
 use Rattle.prime.specs.Sheets.{sheetOf, applySheet, takeSheet, freshSheet, struckCount, addedCount}
@@ -23,7 +21,8 @@ use Rattle.heirs.proofs.Counts.{counts-balance}
 use Rattle.book.proofs.Finding.{good-insert}
 use Rattle.sheet.proofs.Fresh.{fresh-length}
 use Rattle.calls.proofs.Codes.{size-of}
-use Rattle.learning.specs.Learn.{Run, going, refused, choose, taken, learnStep, learnWords, learnStart, reproduced, learnEnd, learnRun}
+use Rattle.learning.specs.Learn.{Run, going, refused, choose, learnWords, learnStart, reproduced, learnEnd, learnRun}
+use Rattle.learning.proofs.Ways.{Opening, two, nine-at-once, opened, Way, six, passed-over, seven, eight, nine, taken-up, run-keeps}
 
 -- the words ts have been read: book b, sheet s, sums x and y
 pub record Read (n : ℕ) (ts b s : List ℕ) (x y : ℕ) : Type 0 where
@@ -51,7 +50,7 @@ read-booked n ts b s x y l =
 
 -- ---- one word
 
-module _ (n bookRoom sheetRoom k t : ℕ) (ts b s : List ℕ) (x y : ℕ) (l : Read n ts b s x y) where
+module _ (n t : ℕ) (ts b s : List ℕ) (x y : ℕ) (l : Read n ts b s x y) where
   snoc : (u : ℕ) → Mem u ts ⊎ Mem u (t ∷ []) → (u ≡ t) ⊎ Mem u ts
   snoc u (inl m) = inr m
   snoc u (inr m) = inl (List·Memᴰ·eq-of-singleton m)
@@ -63,8 +62,8 @@ module _ (n bookRoom sheetRoom k t : ℕ) (ts b s : List ℕ) (x y : ℕ) (l : R
   to-snoc u (inl e) = Memᴰ·append-right ts (here e)
   to-snoc u (inr m) = Memᴰ·append-left (t ∷ []) m
 
-  -- a repeat
-  again : Mem t b → Read n (ts ++ t ∷ []) b s x y
+  -- a repeat leaves what it finds
+  pub again : Mem t b → Read n (ts ++ t ∷ []) b s x y
   again m = record {
     small = l .small;
     into = λ u q. Memᴰ·append-left (t ∷ []) (l .into u q);
@@ -91,8 +90,8 @@ module _ (n bookRoom sheetRoom k t : ℕ) (ts b s : List ℕ) (x y : ℕ) (l : R
       back u (inl e) = here e
       back u (inr m) = there m
 
-  -- a new word
-  one-more : validTransition n t ≡ true → booked t b ≡ false → Read n (ts ++ t ∷ []) (insert t b) new (x + struckCount s new) (y + addedCount s new)
+  -- a word of a new state is taken
+  pub one-more : validTransition n t ≡ true → booked t b ≡ false → Read n (ts ++ t ∷ []) (insert t b) new (x + struckCount s new) (y + addedCount s new)
   one-more ok free = record {
     small = l .small;
     into = λ u m. to-snoc u (older u (insert-e t b u m));
@@ -110,70 +109,37 @@ module _ (n bookRoom sheetRoom k t : ℕ) (ts b s : List ℕ) (x y : ℕ) (l : R
       newer u (inl e) = Memᴰ·cast e (insert-new t b)
       newer u (inr m) = insert-old t (l .all-in u m)
 
-  abbrev fit : Run
-  fit = going (insert t b) new (x + struckCount s new) (y + addedCount s new)
-
-  step : After n (ts ++ t ∷ []) (learnStep n bookRoom sheetRoom k t (going b s x y))
-  unfolding learnStep taken
-  step = go6 (validTransition n t) refl
-    where
-      go9 : (a : Bool) → Read n (ts ++ t ∷ []) (insert t b) new (x + struckCount s new) (y + addedCount s new) → After n (ts ++ t ∷ []) (choose a (refused 9 k) fit)
-      go9 true h = (omega arith, omega arith)
-      go9 false h = h
-
-      go8 : (a : Bool) → Read n (ts ++ t ∷ []) (insert t b) new (x + struckCount s new) (y + addedCount s new)
-          → After n (ts ++ t ∷ []) (choose a (refused 8 k) (choose (ltb sheetRoom (length new)) (refused 9 k) fit))
-      go8 true h = (omega arith, omega arith)
-      go8 false h = go9 (ltb sheetRoom (length new)) h
-
-      go7 : validTransition n t ≡ true → (a : Bool) → booked t b ≡ a
-          → After n (ts ++ t ∷ []) (choose a (refused 7 k) (choose (ltb bookRoom (length b + 1)) (refused 8 k) (choose (ltb sheetRoom (length new)) (refused 9 k) fit)))
-      go7 ok true e = (omega arith, omega arith)
-      go7 ok false e = go8 (ltb bookRoom (length b + 1)) (one-more ok e)
-
-      go1 : validTransition n t ≡ true → (a : Bool) → has t b ≡ a
-          → After n (ts ++ t ∷ []) (choose a (going b s x y) (choose (booked t b) (refused 7 k) (choose (ltb bookRoom (length b + 1)) (refused 8 k) (choose (ltb sheetRoom (length new)) (refused 9 k) fit))))
-      go1 ok true e = again (has-e t b e)
-      go1 ok false e = go7 ok (booked t b) refl
-
-      go6 : (a : Bool) → validTransition n t ≡ a
-          → After n (ts ++ t ∷ []) (choose (not a) (refused 6 k) (choose (has t b) (going b s x y) (choose (booked t b) (refused 7 k) (choose (ltb bookRoom (length b + 1)) (refused 8 k) (choose (ltb sheetRoom (length new)) (refused 9 k) fit)))))
-      go6 true e = go1 e (has t b) refl
-      go6 false e = (omega arith, omega arith)
+  -- on every way through the word
+  word : (bookRoom sheetRoom k : ℕ) (r : Run) → Way n bookRoom sheetRoom k t b s x y r → After n (ts ++ t ∷ []) r
+  word bookRoom sheetRoom k _ (six e) = (omega arith, omega arith)
+  word bookRoom sheetRoom k _ (passed-over v e) = again (has-e t b e)
+  word bookRoom sheetRoom k _ (seven v e f) = (omega arith, omega arith)
+  word bookRoom sheetRoom k _ (eight v e f) = (omega arith, omega arith)
+  word bookRoom sheetRoom k _ (nine v e f g) = (omega arith, omega arith)
+  word bookRoom sheetRoom k _ (taken-up v e f g) = one-more v e
 
 -- ---- all words
 
+pub start-read : (n : ℕ) → n ≤ 10 → Read n [] [] (freshSheet n) 0 0
+unfolding goodBook
+start-read n l = record {
+  small = l;
+  into = λ t m. m;
+  all-in = λ t m. m;
+  good = refl;
+  is-sheet = fresh-sheetOf n l;
+  counts = omega (arith, fresh-length n);
+}
+
 module _ (n bookRoom sheetRoom : ℕ) where
-  step-run : (k t : ℕ) (ts : List ℕ) (r : Run) → After n ts r → After n (ts ++ t ∷ []) (learnStep n bookRoom sheetRoom k t r)
-  unfolding learnStep
-  step-run k t ts (refused c p) f = f
-  step-run k t ts (going b s x y) f = step n bookRoom sheetRoom k t ts b s x y f
+  start-run : (r : Run) → Opening n sheetRoom r → After n [] r
+  start-run _ (two e) = (omega arith, omega arith)
+  start-run _ (nine-at-once e f) = (omega arith, omega arith)
+  start-run _ (opened e f) = start-read n (size-of n e .1)
 
-  words-run : (k : ℕ) (ts us : List ℕ) (r : Run) → After n ts r → After n (ts ++ us) (learnWords n bookRoom sheetRoom k us r)
-  unfolding learnWords
-  words-run k ts [] r f = subst (λ (z : List ℕ). After n z r) (sym (append-nil ts)) f
-  words-run k ts (u ∷ us) r f =
-      subst (λ (z : List ℕ). After n z (learnWords n bookRoom sheetRoom (k + 1) us (learnStep n bookRoom sheetRoom k u r))) (append-assoc ts (u ∷ []) us)
-      (words-run (k + 1) (ts ++ u ∷ []) us (learnStep n bookRoom sheetRoom k u r) (step-run k u ts r f))
-
-  start-run : After n [] (learnStart n sheetRoom)
-  unfolding learnStart goodBook
-  start-run = go2 (panelSize n) refl
-    where
-      go9 : n ≤ 10 → (a : Bool) → After n [] (choose a (refused 9 0) (going [] (freshSheet n) 0 0))
-      go9 l true = (omega arith, omega arith)
-      go9 l false = record {
-        small = l;
-        into = λ t m. m;
-        all-in = λ t m. m;
-        good = refl;
-        is-sheet = fresh-sheetOf n l;
-        counts = omega (arith, fresh-length n);
-      }
-
-      go2 : (a : Bool) → panelSize n ≡ a → After n [] (choose (not a) (refused 2 0) (choose (ltb sheetRoom n) (refused 9 0) (going [] (freshSheet n) 0 0)))
-      go2 true e = go9 (size-of n e .1) (ltb sheetRoom n)
-      go2 false e = (omega arith, omega arith)
+  words-run : (ts : List ℕ) → After n ts (learnWords n bookRoom sheetRoom 0 ts (learnStart n sheetRoom))
+  words-run ts =
+      run-keeps n bookRoom sheetRoom (After n) start-run (λ ps t c p f. f) (λ ps t b s x y r l w. word n t ps b s x y l bookRoom sheetRoom (length ps) r w) ts
 
   -- ---- the check at the end passes
 
@@ -194,9 +160,11 @@ module _ (n bookRoom sheetRoom : ℕ) where
             ap (λ (z : List ℕ). applySheet n z (state t)) (f .is-sheet) ∙ reproduces n (f .small) ts (read-booked n ts b s x y f) t (f .into t m)),
       )))
 
+  -- so the run is that of the words alone
+  pub run-words : (ts : List ℕ) → learnRun n bookRoom sheetRoom ts ≡ learnWords n bookRoom sheetRoom 0 ts (learnStart n sheetRoom)
+  unfolding learnRun
+  run-words ts = end-run ts (learnWords n bookRoom sheetRoom 0 ts (learnStart n sheetRoom)) (words-run ts)
+
   -- learn that is not refused has read all words of the list
   pub run-read : (ts : List ℕ) → After n ts (learnRun n bookRoom sheetRoom ts)
-  unfolding learnRun
-  run-read ts =
-      let f = words-run 0 [] ts (learnStart n sheetRoom) start-run in
-      subst (After n ts) (sym (end-run ts (learnWords n bookRoom sheetRoom 0 ts (learnStart n sheetRoom)) f)) f
+  run-read ts = subst (After n ts) (sym (run-words ts)) (words-run ts)

@@ -1,4 +1,5 @@
 pub mod Words
 pub mod Lists
 pub mod Ends
+pub mod Ways
 pub mod Determined

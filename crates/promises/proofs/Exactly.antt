@@ -1,81 +1,26 @@
 -- The definitions leave no choice: a refusal has one code and one place, and a sheet is printed exactly where nothing is refused.
 use mathlib.Core.Path.{_≡_, refl, sym, ap, _∙_, subst}
-use mathlib.Core.List.{List, [], _∷_, _++_, List·Memᴰ as Mem, List·Memᴰ·head as here, Memᴰ·append-left, Memᴰ·append-right, append-assoc, head-eq-of-cons-eq, tail-eq-of-cons-eq}
+use mathlib.Core.Logic.{_↔_}
+use mathlib.Core.List.{List, _++_}
 use Prim.Native.Nat.{ℕ, _≤_, _<_}
 use native.Mathlib.Omega.{arith}
 use lib.ListN.{length}
+use Rattle.table.specs.Lists.{all}
+use Rattle.panel.specs.Transitions.{validTransition}
+use Rattle.prime.specs.Sheets.{sheetOf}
 use Rattle.headers.specs.Layouts.{recording}
 use Rattle.headers.specs.Accepted.{Accepted}
 use Rattle.headers.specs.Places.{Place}
 use Rattle.headers.proofs.PlaceLaws.{one-size, one-place, accepted-no-place}
 use Rattle.recording.specs.Rows.{textWords}
+use Rattle.recording.proofs.WordLaws.{read-size, read-valid}
 use Rattle.program.specs.Program.{refusalLine, Runs}
-use Rattle.promises.specs.Printed.{Recorded, Learnable, Before, Contradicted, TooLarge, Refused, too-long, faulty, too-many, contradicted, too-large, Prints, SheetPrinted, Printed, a-sheet, a-refusal, Rooms}
+use Rattle.handover.specs.Learning.{OneNext, Learnable, LearnRefused}
+use Rattle.handover.proofs.Stopping.{learnable-not-refused, learn-refused-once}
+use Rattle.promises.specs.Printed.{Recorded, Refused, too-long, faulty, too-many, contradicted, too-large, Prints, SheetPrinted, Printed, a-sheet, a-refusal, Rooms}
+use Rattle.promises.proofs.Learning.{words-learnable}
+use Rattle.promises.proofs.OneLine.{line-unique, line-not-sheet}
 use Rattle.promises.proofs.TextToText.{text-to-text}
-
--- ---- the word at which learning stops
-
--- two words of one list, each with those before it: they are the same, or one stands before the other
-data Order (ps qs : List ℕ) (w v : ℕ) : Type 0 where
-  same : ps ≡ qs → w ≡ v → Order ps qs w v
-  first : (m : List ℕ) → qs ≡ ps ++ w ∷ m → Order ps qs w v
-  second : (m : List ℕ) → ps ≡ qs ++ v ∷ m → Order ps qs w v
-
-compare : (ps qs : List ℕ) (w v : ℕ) (rest others : List ℕ) → ps ++ w ∷ rest ≡ qs ++ v ∷ others → Order ps qs w v
-compare [] [] w v rest others e = same refl (head-eq-of-cons-eq e)
-compare [] (q ∷ qs) w v rest others e = first qs (ap (λ (z : ℕ). z ∷ qs) (sym (head-eq-of-cons-eq e)))
-compare (p ∷ ps) [] w v rest others e = second ps (ap (λ (z : ℕ). z ∷ ps) (head-eq-of-cons-eq e))
-compare (p ∷ ps) (q ∷ qs) w v rest others e = go (compare ps qs w v rest others (tail-eq-of-cons-eq e))
-  where
-    h : p ≡ q
-    h = head-eq-of-cons-eq e
-
-    go : Order ps qs w v → Order (p ∷ ps) (q ∷ qs) w v
-    go (same k l) = same (ap (λ (z : ℕ). z ∷ ps) h ∙ ap (λ (z : List ℕ). q ∷ z) k) l
-    go (first m k) = first m (ap (λ (z : List ℕ). q ∷ z) k ∙ ap (λ (z : ℕ). z ∷ (ps ++ w ∷ m)) (sym h))
-    go (second m k) = second m (ap (λ (z : List ℕ). p ∷ z) k ∙ ap (λ (z : ℕ). z ∷ (qs ++ v ∷ m)) h)
-
-module _ (n : ℕ) (ts : List ℕ) where
-  -- what contradicts itself or is too large stops learning, whatever follows
-  contradicted-stops : (k : ℕ) (c : Contradicted n ts k) (m : List ℕ) → Learnable n (c .ps ++ c .w ∷ m) → ⊥
-  contradicted-stops k c m l =
-      c .other-next (l .one-next (c .u) (c .w) (Memᴰ·append-left (c .w ∷ m) (c .earlier)) (Memᴰ·append-right (c .ps) (here refl)) (c .same-state))
-
-  large-stops : (k : ℕ) (d : TooLarge n ts k) (m : List ℕ) → Learnable n (d .ps ++ d .w ∷ m) → ⊥
-  large-stops k d m l = omega (arith, d .many, l .fits (d .ps ++ d .w ∷ []) m (sym (append-assoc (d .ps) (d .w ∷ []) m)))
-
-  -- a stop: learning went through the words ps, and goes through no list that begins with ps and w
-  record Stop (k : ℕ) : Type 0 where
-    ps : List ℕ
-    w : ℕ
-    before : Before ts ps w k
-    learned : Learnable n ps
-    blocks : (m : List ℕ) → Learnable n (ps ++ w ∷ m) → ⊥
-
-  contradicted-stop : {k : ℕ} → Contradicted n ts k → Stop k
-  contradicted-stop {k = k} c = record { ps = c .ps; w = c .w; before = c .before; learned = c .learned; blocks = contradicted-stops k c }
-
-  large-stop : {k : ℕ} → TooLarge n ts k → Stop k
-  large-stop {k = k} d = record { ps = d .ps; w = d .w; before = d .before; learned = d .learned; blocks = large-stops k d }
-
-  stop-refused : {k : ℕ} → Stop k → Learnable n ts → ⊥
-  stop-refused a l = a .blocks (a .before .rest) (subst (Learnable n) (a .before .whole) l)
-
-  stop-once : {k j : ℕ} (a : Stop k) (b : Stop j) → (k ≡ j) × (a .ps ≡ b .ps) × (a .w ≡ b .w)
-  stop-once {k = k} {j = j} a b = go (compare (a .ps) (b .ps) (a .w) (b .w) (a .before .rest) (b .before .rest) (sym (a .before .whole) ∙ b .before .whole))
-    where
-      go : Order (a .ps) (b .ps) (a .w) (b .w) → (k ≡ j) × (a .ps ≡ b .ps) × (a .w ≡ b .w)
-      go (same e f) = (a .before .number ∙ ap length e ∙ sym (b .before .number), e, f)
-      go (first m e) = absurd (a .blocks m (subst (Learnable n) e (b .learned)))
-      go (second m e) = absurd (b .blocks m (subst (Learnable n) e (a .learned)))
-
-  -- a word that contradicts an earlier one is refused for that, and not for the size of the sheet
-  seven-not-nine : {k j : ℕ} → Contradicted n ts k → TooLarge n ts j → ⊥
-  unfolding contradicted-stop large-stop
-  seven-not-nine c d =
-      let o = stop-once (contradicted-stop c) (large-stop d) in
-      c .other-next (d .one-next (c .u) (c .w)
-      (Memᴰ·append-left (d .w ∷ []) (subst (λ (z : List ℕ). Mem (c .u) z) (o .1) (c .earlier))) (Memᴰ·append-right (d .ps) (here (o .2))) (c .same-state))
 
 -- ---- a refusal has one code and one place
 
@@ -114,46 +59,46 @@ module _ (t : List ℕ) where
 
   -- a text that is read well is refused for its words only
   module _ (n : ℕ) (ts : List ℕ) (a : Recorded t n ts) where
-    as-contradicted : {m k : ℕ} {us : List ℕ} → Recorded t m us → Contradicted m us k → Contradicted n ts k
-    as-contradicted {k = k} {us = us} b c =
-        subst (λ (z : List ℕ). Contradicted n z k) (recorded-once a b .1) (subst (λ (z : ℕ). Contradicted z us k) (recorded-once a b .0) c)
+    as-refused : {m c k : ℕ} {us : List ℕ} → Recorded t m us → LearnRefused m us 1024 1024 c k → LearnRefused n ts 1024 1024 c k
+    as-refused {c = c} {k = k} {us = us} b q =
+        subst (λ (z : List ℕ). LearnRefused n z 1024 1024 c k) (recorded-once a b .1) (subst (λ (z : ℕ). LearnRefused z us 1024 1024 c k) (recorded-once a b .0) q)
 
-    as-large : {m k : ℕ} {us : List ℕ} → Recorded t m us → TooLarge m us k → TooLarge n ts k
-    as-large {k = k} {us = us} b c = subst (λ (z : List ℕ). TooLarge n z k) (recorded-once a b .1) (subst (λ (z : ℕ). TooLarge z us k) (recorded-once a b .0) c)
+    -- a refusal of learning, of whatever code: no other
+    once : {c k d j m : ℕ} {us : List ℕ} → LearnRefused n ts 1024 1024 c k → Recorded t m us → LearnRefused m us 1024 1024 d j → (c ≡ d) × (k ≡ j)
+    once f b q = learn-refused-once n 1024 1024 f (as-refused b q)
 
-    only-7 : (j : ℕ) → Contradicted n ts j → Only 7 j
-    only-7 j f _ _ (too-long l) = absurd (omega (arith, a .short, l))
-    only-7 j f _ _ (faulty k s p) = absurd (not-good (a .good) p)
-    only-7 j f _ _ (too-many m s i l) = absurd (omega (arith, l, a .listed, ap length (a .words)))
-    only-7 j f _ _ (contradicted m k us r c) = (refl, stop-once n ts (contradicted-stop n ts f) (contradicted-stop n ts (as-contradicted r c)) .0)
-    only-7 j f _ _ (too-large m k us r c) = absurd (seven-not-nine n ts f (as-large r c))
+    only-learn : (c j : ℕ) → LearnRefused n ts 1024 1024 c j → Only c j
+    only-learn c j f _ _ (too-long l) = absurd (omega (arith, a .short, l))
+    only-learn c j f _ _ (faulty k s p) = absurd (not-good (a .good) p)
+    only-learn c j f _ _ (too-many m s i l) = absurd (omega (arith, l, a .listed, ap length (a .words)))
+    only-learn c j f _ _ (contradicted m k us r q) = once f r q
+    only-learn c j f _ _ (too-large m k us r q) = once f r q
 
-    only-9 : (j : ℕ) → TooLarge n ts j → Only 9 j
-    only-9 j f _ _ (too-long l) = absurd (omega (arith, a .short, l))
-    only-9 j f _ _ (faulty k s p) = absurd (not-good (a .good) p)
-    only-9 j f _ _ (too-many m s i l) = absurd (omega (arith, l, a .listed, ap length (a .words)))
-    only-9 j f _ _ (contradicted m k us r c) = absurd (seven-not-nine n ts (as-contradicted r c) f)
-    only-9 j f _ _ (too-large m k us r c) = (refl, stop-once n ts (large-stop n ts f) (large-stop n ts (as-large r c)) .0)
-
-    not-refused : Learnable n ts → (d q : ℕ) → Refused t d q → ⊥
+    not-refused : Learnable n ts 1024 1024 → (d q : ℕ) → Refused t d q → ⊥
     not-refused l _ _ (too-long h) = omega (arith, a .short, h)
     not-refused l _ _ (faulty k s p) = not-good (a .good) p
     not-refused l _ _ (too-many m s i h) = omega (arith, h, a .listed, ap length (a .words))
-    not-refused l _ _ (contradicted m k us r c) = stop-refused n ts (contradicted-stop n ts (as-contradicted r c)) l
-    not-refused l _ _ (too-large m k us r c) = stop-refused n ts (large-stop n ts (as-large r c)) l
+    not-refused l _ _ (contradicted m k us r c) = learnable-not-refused n 1024 1024 l (as-refused r c)
+    not-refused l _ _ (too-large m k us r c) = learnable-not-refused n 1024 1024 l (as-refused r c)
 
   pub refused-once : (c p : ℕ) → Refused t c p → Only c p
   refused-once _ _ (too-long h) = only-13 h
   refused-once _ _ (faulty k s p) = only-11 k s p
   refused-once _ _ (too-many n s g m) = only-8 n s g m
-  refused-once _ _ (contradicted n k ts r c) = only-7 n ts r k c
-  refused-once _ _ (too-large n k ts r c) = only-9 n ts r k c
+  refused-once _ _ (contradicted n k ts r c) = only-learn n ts r 7 k c
+  refused-once _ _ (too-large n k ts r c) = only-learn n ts r 9 k c
 
 -- ---- exactly when
 
+-- of what was read, the first words or all of them, two things alone can stop learning: a state with two successors, and too many prime rules
+pub recorded-learnable : {t : List ℕ} {n : ℕ} {ts : List ℕ} → Recorded t n ts → (ps rest : List ℕ) → ts ≡ ps ++ rest → OneNext ps
+    → ((qs more : List ℕ) → ps ≡ qs ++ more → length (sheetOf n qs) ≤ 1024) → Learnable n ps 1024 1024
+recorded-learnable {t = t} {n = n} {ts = ts} a ps rest e one fits =
+    words-learnable n (read-size t n (a .good)) ts (ap (all (validTransition n)) (a .words) ∙ read-valid t n (a .good)) (a .listed) ps rest e one fits
+
 module _ {t list book sheet out l b s out′ : List ℕ} {r : ℕ} (rooms : Rooms list book sheet out) (runs : Runs t list book sheet out l b s out′ r) where
   -- a recording that nothing stops is answered with its sheet
-  pub sheet-printed : (n : ℕ) (ts : List ℕ) → Recorded t n ts → Learnable n ts → SheetPrinted t out out′ r
+  pub sheet-printed : (n : ℕ) (ts : List ℕ) → Recorded t n ts → Learnable n ts 1024 1024 → SheetPrinted t out out′ r
   sheet-printed n ts a k = go (text-to-text rooms runs)
     where
       go : Printed t out out′ r → SheetPrinted t out out′ r
@@ -169,3 +114,13 @@ module _ {t list book sheet out l b s out′ : List ℕ} {r : ℕ} (rooms : Room
       go (a-refusal q) =
           let k = refused-once t (q .code) (q .place) (q .refused) c p f in
           subst (λ (z : ℕ). Prints out out′ r (refusalLine c z)) (k .1) (subst (λ (z : ℕ). Prints out out′ r (refusalLine z (q .place))) (k .0) (q .prints))
+
+  -- and back: what the line tells is how 01 refuses the text
+  pub refusal-exactly : (c p : ℕ) → Prints out out′ r (refusalLine c p) ↔ Refused t c p
+  refusal-exactly c p = (λ f. go f (text-to-text rooms runs), λ f. refusal-printed c p f)
+    where
+      go : Prints out out′ r (refusalLine c p) → Printed t out out′ r → Refused t c p
+      go f (a-sheet q) = absurd (line-not-sheet c p (q .n) (q .s) (sym (f .text) ∙ q .prints .text))
+      go f (a-refusal q) =
+          let k = line-unique (q .code) (q .place) c p (sym (q .prints .text) ∙ f .text) in
+          subst (λ (z : ℕ). Refused t c z) (k .1) (subst (λ (z : ℕ). Refused t z (q .place)) (k .0) (q .refused))

@@ -6,9 +6,9 @@ use Prim.Native.Nat.{ℕ, _≤_, _<_}
 use native.Mathlib.Omega.{arith}
 use lib.ListN.{length, take, replicate, length-replicate}
 use Rattle.table.proofs.Counting.{parted}
-use Rattle.panel.specs.Masks.{on, relays, allOn, allOff}
+use Rattle.panel.specs.Masks.{on, relays, allOn, allOff, panelSize}
 use Rattle.panel.specs.Rules.{ruleWord, rules}
-use Rattle.panel.specs.Transitions.{transitionWord, state, next}
+use Rattle.panel.specs.Transitions.{transitionWord, state, next, validTransition}
 use Rattle.prime.specs.Sheets.{consistent, least, sheetWhere, sheetOf}
 use Rattle.answers.specs.Answers.{wordsIf}
 use Rattle.fields.specs.Bytes.{markOf, run, same}
@@ -16,17 +16,21 @@ use Rattle.fields.specs.Texts.{linesOf, body}
 use Rattle.fields.specs.Values.{cubeOf, digits, numberOf}
 use Rattle.fields.specs.Fields.{fieldsFrom, fieldsIn}
 use Rattle.lines.specs.Lines.{keyOf, typedOf, rowLine, classOf, ofFields, lineOf}
-use Rattle.lines.specs.declared.Kind.the-variants.{Recording}
-use Rattle.headers.specs.Headers.{openOf, fitsOf, readyOf}
+use Rattle.headers.specs.Layouts.{recording}
+use Rattle.headers.specs.Accepted.{Accepted}
+use Rattle.headers.specs.Headers.{lacks, lacksNone, readyOf, rowFits, openOf, fitsOf, headerAllowed, endAllowed, rowAllowed, allowedAt, nextAt}
 use Rattle.headers.specs.Verdicts.{finishOf, judgeLines, judgeOf}
 use Rattle.headers.specs.declared.Verdict.the-variants.{Good, Bad}
-use Rattle.headers.proofs.PlaceLaws.{bad-iff-place}
+use Rattle.headers.proofs.Accepting.{good-iff-text}
+use Rattle.headers.proofs.PlaceLaws.{one-size, bad-iff-place}
 use Rattle.recording.specs.Rows.{matchesOf, wordsBelow, linesWords, textWords}
 use Rattle.recording.specs.Reading.{readList}
 use Rattle.learning.specs.Learn.{runBook, runSheet}
 use Rattle.writing.specs.Writing.{written}
 use Rattle.program.specs.Program.{tooLong, entryCode, learnedRun, printed, Runs}
-use Rattle.promises.specs.Printed.{Recorded, Learnable, SameRows, Contradicted, Refused, too-long, faulty, too-many, contradicted, SheetPrinted, RefusalPrinted, Rooms}
+use Rattle.handover.specs.Learning.{Learnable, contradicted as stopped, LearnRefused, at-word}
+use Rattle.promises.specs.Printed.{Recorded, SameRows, Refused, too-long, faulty, too-many, contradicted, SheetPrinted, RefusalPrinted, Rooms}
+use Rattle.promises.proofs.Learning.{words-learnable}
 use Rattle.promises.proofs.Exactly.{sheet-printed, refusal-printed}
 use Rattle.promises.proofs.OneText.{one-text}
 
@@ -54,15 +58,18 @@ too-many-rows = 46 ∷ 105 ∷ 32 ∷ 49 ∷ 48 ∷ 10 ∷ 46 ∷ 111 ∷ 32 ∷
 
 -- their words, and what their layout is judged to be
 words-are : (textWords two-rows ≡ 1024 ∷ 0 ∷ []) × (textWords one-dash ≡ 0 ∷ 1024 ∷ 0 ∷ []) × (textWords two-ways ≡ 0 ∷ 1 ∷ [])
-unfolding on relays allOn allOff transitionWord markOf run same linesOf body cubeOf digits numberOf fieldsFrom fieldsIn keyOf typedOf rowLine classOf ofFields lineOf openOf fitsOf readyOf finishOf judgeLines judgeOf matchesOf wordsBelow linesWords textWords
+unfolding on relays allOn allOff transitionWord markOf run same linesOf body cubeOf digits numberOf fieldsFrom fieldsIn keyOf typedOf rowLine classOf ofFields lineOf matchesOf wordsBelow linesWords textWords
 words-are = (refl, refl, refl)
 
-layouts-are : (judgeOf Recording two-rows ≡ Good 1) × (judgeOf Recording one-dash ≡ Good 1) × (judgeOf Recording two-ways ≡ Good 1) × (judgeOf Recording too-many-rows ≡ Good 10) × (judgeOf Recording [] ≡ Bad 1)
-unfolding on relays allOn allOff transitionWord markOf run same linesOf body cubeOf digits numberOf fieldsFrom fieldsIn keyOf typedOf rowLine classOf ofFields lineOf openOf fitsOf readyOf finishOf judgeLines judgeOf matchesOf wordsBelow linesWords textWords
-layouts-are = (refl, refl, refl, refl, refl)
+judged : (judgeOf recording two-rows ≡ Good 1) × (judgeOf recording one-dash ≡ Good 1) × (judgeOf recording two-ways ≡ Good 1) × (judgeOf recording too-many-rows ≡ Good 10) × (judgeOf recording [] ≡ Bad 1)
+unfolding markOf run same body linesOf fieldsFrom fieldsIn cubeOf digits numberOf keyOf typedOf rowLine classOf ofFields lineOf lacks lacksNone readyOf rowFits openOf fitsOf headerAllowed endAllowed rowAllowed allowedAt nextAt finishOf judgeLines judgeOf
+judged = (refl, refl, refl, refl, refl)
+
+accepted : (Accepted recording 1 two-rows) × (Accepted recording 1 one-dash) × (Accepted recording 1 two-ways) × (Accepted recording 10 too-many-rows)
+accepted = (good-iff-text recording two-rows 1 .0 (judged .0), good-iff-text recording one-dash 1 .0 (judged .1), good-iff-text recording two-ways 1 .0 (judged .2), good-iff-text recording too-many-rows 10 .0 (judged .3))
 
 long-words : 1024 < length (textWords too-many-rows)
-unfolding on relays allOn allOff transitionWord markOf run same linesOf body cubeOf digits numberOf fieldsFrom fieldsIn keyOf typedOf rowLine classOf ofFields lineOf openOf fitsOf readyOf finishOf judgeLines judgeOf matchesOf wordsBelow linesWords textWords
+unfolding on relays allOn allOff transitionWord markOf run same linesOf body cubeOf digits numberOf fieldsFrom fieldsIn keyOf typedOf rowLine classOf ofFields lineOf matchesOf wordsBelow linesWords textWords
 long-words = omega arith
 
 -- ---- the recordings
@@ -84,13 +91,12 @@ zero-next t (there (here e)) = ap next e
 zero-next t (there (there m)) = absurd (List·Memᴰ·not-nil m)
 
 pub two-rows-recorded : Recorded two-rows 1 (1024 ∷ 0 ∷ [])
-two-rows-recorded = record { short = omega arith; good = layouts-are .0; words = sym (words-are .0); listed = omega arith }
+two-rows-recorded = record { short = omega arith; good = accepted .0; words = sym (words-are .0); listed = omega arith }
 
-pub two-rows-learnable : Learnable 1 (1024 ∷ 0 ∷ [])
-two-rows-learnable = record {
-  one-next = λ t u m k e. zero-next t m ∙ sym (zero-next u k);
-  fits = λ ps rest e. one-relay-fits ps;
-}
+pub two-rows-learnable : Learnable 1 (1024 ∷ 0 ∷ []) 1024 1024
+unfolding panelSize state next validTransition
+two-rows-learnable =
+    words-learnable 1 refl (1024 ∷ 0 ∷ []) refl (omega arith) (1024 ∷ 0 ∷ []) [] refl (λ t u m k e. zero-next t m ∙ sym (zero-next u k)) (λ ps rest e. one-relay-fits ps)
 
 -- the other text has the same rows
 turned : (w : ℕ) → Mem w (1024 ∷ 0 ∷ []) → Mem w (0 ∷ 1024 ∷ 0 ∷ [])
@@ -111,13 +117,12 @@ same-rows = record {
 }
 
 pub one-dash-recorded : Recorded one-dash 1 (0 ∷ 1024 ∷ 0 ∷ [])
-one-dash-recorded = record { short = omega arith; good = layouts-are .1; words = sym (words-are .1); listed = omega arith }
+one-dash-recorded = record { short = omega arith; good = accepted .1; words = sym (words-are .1); listed = omega arith }
 
-pub one-dash-learnable : Learnable 1 (0 ∷ 1024 ∷ 0 ∷ [])
-one-dash-learnable = record {
-  one-next = λ t u m k e. zero-next t (back t m) ∙ sym (zero-next u (back u k));
-  fits = λ ps rest e. one-relay-fits ps;
-}
+pub one-dash-learnable : Learnable 1 (0 ∷ 1024 ∷ 0 ∷ []) 1024 1024
+unfolding panelSize state next validTransition
+one-dash-learnable =
+    words-learnable 1 refl (0 ∷ 1024 ∷ 0 ∷ []) refl (omega arith) (0 ∷ 1024 ∷ 0 ∷ []) [] refl (λ t u m k e. zero-next t (back t m) ∙ sym (zero-next u (back u k))) (λ ps rest e. one-relay-fits ps)
 
 -- ---- the program's slices and its runs
 
@@ -157,42 +162,33 @@ one-dash-printed = sheet-printed rooms (runs one-dash) 1 _ one-dash-recorded one
 -- with the same bytes
 pub one-text-printed : (length (answer two-rows) ≡ length (answer one-dash))
     × (take (length (answer two-rows)) (written output 0 (answer two-rows)) ≡ take (length (answer one-dash)) (written output 0 (answer one-dash)))
-one-text-printed = one-text two-rows-printed one-dash-printed one-size same-rows
-  where
-    one-size : two-rows-printed .n ≡ one-dash-printed .n
-    one-size = sized (sym (two-rows-printed .recorded .good) ∙ layouts-are .0) ∙ sym (sized (sym (one-dash-printed .recorded .good) ∙ layouts-are .1))
-      where
-        sized : {m : ℕ} → Good m ≡ Good 1 → m ≡ 1
-        sized e = cc
+one-text-printed =
+    one-text two-rows-printed one-dash-printed
+    (one-size recording two-rows (two-rows-printed .n) 1 (two-rows-printed .recorded .good) (accepted .0) ∙ sym (one-size recording one-dash (one-dash-printed .n) 1 (one-dash-printed .recorded .good) (accepted .1)))
+    same-rows
 
 -- ---- refusals
 
 -- 7 at word 1: "0 to 1" after "0 to 0"
-pub two-ways-contradicted : Contradicted 1 (0 ∷ 1 ∷ []) 1
-unfolding state next
-two-ways-contradicted = record {
-  ps = 0 ∷ [];
-  w = 1;
-  u = 0;
-  before = record { rest = []; whole = refl; number = refl };
-  learned = record { one-next = λ t u m k e. ap next (List·Memᴰ·eq-of-singleton m ∙ sym (List·Memᴰ·eq-of-singleton k)); fits = λ ps rest e. one-relay-fits ps };
-  earlier = here refl;
-  same-state = refl;
-  other-next = λ e. omega (arith, e);
-}
+pub two-ways-contradicted : LearnRefused 1 (0 ∷ 1 ∷ []) 1024 1024 7 1
+unfolding panelSize state next validTransition
+two-ways-contradicted =
+    at-word (0 ∷ []) 1 1 7 (record { rest = []; whole = refl; number = refl })
+    (words-learnable 1 refl (0 ∷ 1 ∷ []) refl (omega arith) (0 ∷ []) (1 ∷ []) refl (λ t u m k e. ap next (List·Memᴰ·eq-of-singleton m ∙ sym (List·Memᴰ·eq-of-singleton k))) (λ ps rest e. one-relay-fits ps))
+    (stopped 0 refl (here refl) refl (λ e. omega (arith, e)))
 
 -- one text for each code but 9
 pub long-refused : Refused (replicate 24577 0) 13 0
 long-refused = too-long (omega (arith, length-replicate {A = ℕ} 24577 0))
 
 pub empty-refused : Refused [] 11 1
-empty-refused = faulty 1 (omega arith) (bad-iff-place Recording [] 1 .0 (layouts-are .4))
+empty-refused = faulty 1 (omega arith) (bad-iff-place recording [] 1 .0 (judged .4))
 
 pub many-refused : Refused too-many-rows 8 0
-many-refused = too-many 10 (omega arith) (layouts-are .3) long-words
+many-refused = too-many 10 (omega arith) (accepted .3) long-words
 
 pub two-ways-refused : Refused two-ways 7 1
-two-ways-refused = contradicted 1 1 (0 ∷ 1 ∷ []) (record { short = omega arith; good = layouts-are .2; words = sym (words-are .2); listed = omega arith }) two-ways-contradicted
+two-ways-refused = contradicted 1 1 (0 ∷ 1 ∷ []) (record { short = omega arith; good = accepted .2; words = sym (words-are .2); listed = omega arith }) two-ways-contradicted
 
 -- and the line that is printed for the last
 pub two-ways-printed : RefusalPrinted two-ways output (written output 0 (answer two-ways)) (length (answer two-ways))

@@ -1,6 +1,6 @@
 -- Demand 2 from text to text, over the contract of the program and nothing else.
 use mathlib.Core.Path.{_≡_, refl, sym, ap, _∙_, subst}
-use mathlib.Core.Logic.{inl, inr}
+use mathlib.Core.Logic.{_⊎_, inl, inr}
 use mathlib.Core.Bool.{Bool, true, false, cond}
 use mathlib.Core.List.{List, [], List·Memᴰ as Mem}
 use Prim.Native.Nat.{ℕ, _+_, _-_, _≤_, _<_}
@@ -32,8 +32,10 @@ use Rattle.program.proofs.Promises.{never-12}
 use Rattle.program.proofs.AnswerLaws.{run-answers}
 use Rattle.handover.specs.Demands.{Outcome, lent, sheetUsed, Complete}
 use Rattle.handover.proofs.Demands.{learn-complete}
-use Rattle.promises.specs.Printed.{Recorded, Learnable, Refused, too-long, faulty, too-many, contradicted, too-large, Prints, Printed, a-sheet, a-refusal, Rooms}
-use Rattle.promises.proofs.Learning.{Ended, learn-ended}
+use Rattle.handover.specs.Learning.{Learnable, LearnRefused}
+use Rattle.handover.proofs.Learning.{run-learnable, run-refused}
+use Rattle.promises.specs.Printed.{Recorded, Refused, too-long, faulty, too-many, contradicted, too-large, Prints, Printed, a-sheet, a-refusal, Rooms}
+use Rattle.promises.proofs.Learning.{learn-ended}
 
 -- ---- the bytes
 
@@ -82,19 +84,27 @@ module _ (n : ℕ) (ts b s : List ℕ) (x y : ℕ) (e : learnRun n 1024 1024 ts 
 
 -- what a run of the program says of the text: its words are learned, or it is refused
 abbrev Says : List ℕ → ℕ → Run → Type 0
-Says t n (going b s x y) = (ts : List ℕ) × Recorded t n ts × Learnable n ts × (learnRun n 1024 1024 ts ≡ going b s x y)
+Says t n (going b s x y) = (ts : List ℕ) × Recorded t n ts × Learnable n ts 1024 1024 × (learnRun n 1024 1024 ts ≡ going b s x y)
 Says t n (refused c p) = Refused t c p
 
 module _ (t : List ℕ) where
-  ended-says : (n : ℕ) → Recorded t n (textWords t) → (r : Run) → learnRun n 1024 1024 (textWords t) ≡ r → Ended n (textWords t) r → Says t n r
-  ended-says n k (going b s x y) e q = (textWords t, k, q .0, e)
-  ended-says n k (refused c p) e (inl q) = subst (λ (z : ℕ). Refused t z p) (sym (q .0)) (contradicted n p (textWords t) k (q .1))
-  ended-says n k (refused c p) e (inr q) = subst (λ (z : ℕ). Refused t z p) (sym (q .0)) (too-large n p (textWords t) k (q .1))
+  refused-says : (n c p : ℕ) → Recorded t n (textWords t) → LearnRefused n (textWords t) 1024 1024 c p → (c ≡ 7) ⊎ (c ≡ 9) → Refused t c p
+  refused-says n c p k q (inl e) =
+      subst (λ (z : ℕ). Refused t z p) (sym e) (contradicted n p (textWords t) k (subst (λ (z : ℕ). LearnRefused n (textWords t) 1024 1024 z p) e q))
+  refused-says n c p k q (inr e) =
+      subst (λ (z : ℕ). Refused t z p) (sym e) (too-large n p (textWords t) k (subst (λ (z : ℕ). LearnRefused n (textWords t) 1024 1024 z p) e q))
 
   good-says : (n : ℕ) → length t ≤ 24576 → Accepted recording n t → length (textWords t) ≤ 1024 → Says t n (learnRun n 1024 1024 (textWords t))
-  good-says n h f k =
-      ended-says n (record { short = h; good = f; words = refl; listed = k }) (learnRun n 1024 1024 (textWords t)) refl
-      (learn-ended n (read-size t n f) (textWords t) (read-valid t n f) k)
+  good-says n h f k = go (learnRun n 1024 1024 (textWords t)) refl
+    where
+      as-read : Recorded t n (textWords t)
+      as-read = record { short = h; good = f; words = refl; listed = k }
+
+      go : (r : Run) → learnRun n 1024 1024 (textWords t) ≡ r → Says t n r
+      go (going b s x y) e = (textWords t, as-read, run-learnable n 1024 1024 e, e)
+      go (refused c p) e =
+          let q = run-refused n 1024 1024 e in
+          refused-says n c p as-read q (learn-ended n (read-size t n f) (textWords t) (read-valid t n f) k q)
 
   run-says : Says t (readAnswer t 1024 .n) (runIf (entryCode t 1024) (learnedRun t 1024 1024 1024) (entryPlace t 1024))
   unfolding entryCode entryPlace learnedRun readAnswer readList filled

@@ -1,12 +1,10 @@
 -- From text to text: what the program prints for an input, in the words of document 01. It is the sheet of the recording, or the line of a refusal.
 use mathlib.Core.Path.{_≡_}
 use mathlib.Core.Bool.{true}
-use mathlib.Core.List.{List, [], _∷_, _++_, List·Memᴰ as Mem}
+use mathlib.Core.List.{List, List·Memᴰ as Mem}
 use Prim.Native.Nat.{ℕ, _≤_, _<_}
 use lib.ListN.{length, take, drop}
 use Rattle.table.specs.Lists.{increasing}
-use Rattle.panel.specs.Transitions.{state, next}
-use Rattle.prime.specs.Sheets.{sheetOf}
 use Rattle.headers.specs.Layouts.{recording}
 use Rattle.headers.specs.Accepted.{Accepted}
 use Rattle.headers.specs.Places.{Place}
@@ -14,6 +12,7 @@ use Rattle.recording.specs.Rows.{textWords}
 use Rattle.writing.specs.SheetText.{sheetText}
 use Rattle.program.specs.Program.{refusalLine}
 use Rattle.handover.specs.Demands.{Prime}
+use Rattle.handover.specs.Learning.{Learnable, LearnRefused}
 
 -- ---- the recording
 
@@ -24,15 +23,6 @@ pub record Recorded (t : List ℕ) (n : ℕ) (ts : List ℕ) : Type 0 where
   pub words : ts ≡ textWords t
   pub listed : length ts ≤ 1024
 
--- no state is recorded with two different successors
-abbrev pub OneNext : List ℕ → Type 0
-OneNext ts = (t u : ℕ) → Mem t ts → Mem u ts → state t ≡ state u → next t ≡ next u
-
--- nothing stops learning: no state has two successors, and the first words, however many, have at most 1,024 prime rules
-pub record Learnable (n : ℕ) (ts : List ℕ) : Type 0 where
-  pub one-next : OneNext ts
-  pub fits : (ps rest : List ℕ) → ts ≡ ps ++ rest → length (sheetOf n ps) ≤ 1024
-
 -- the rows of two texts stand for the same transitions, in any order, with repeats, comments and dashes
 pub record SameRows (t u : List ℕ) : Type 0 where
   pub there : (w : ℕ) → Mem w (textWords t) → Mem w (textWords u)
@@ -40,39 +30,13 @@ pub record SameRows (t u : List ℕ) : Type 0 where
 
 -- ---- refusals
 
--- the words ps stand before word number k of ts, which is w
-pub record Before (ts ps : List ℕ) (w k : ℕ) : Type 0 where
-  pub rest : List ℕ
-  pub whole : ts ≡ ps ++ w ∷ rest
-  pub number : k ≡ length ps
-
--- 7 at word k: up to it nothing stops learning, and its state stands before it with another successor
-pub record Contradicted (n : ℕ) (ts : List ℕ) (k : ℕ) : Type 0 where
-  pub ps : List ℕ
-  pub w : ℕ
-  pub u : ℕ
-  pub before : Before ts ps w k
-  pub learned : Learnable n ps
-  pub earlier : Mem u ps
-  pub same-state : state u ≡ state w
-  pub other-next : next u ≡ next w → ⊥
-
--- 9 at word k: up to it nothing stops learning, and the words up to k, of one successor each, have more than 1,024 prime rules
-pub record TooLarge (n : ℕ) (ts : List ℕ) (k : ℕ) : Type 0 where
-  pub ps : List ℕ
-  pub w : ℕ
-  pub before : Before ts ps w k
-  pub learned : Learnable n ps
-  pub one-next : OneNext (ps ++ w ∷ [])
-  pub many : 1024 < length (sheetOf n (ps ++ w ∷ []))
-
 -- the text is refused with a code and a place: 13, then 11 and 8 of reading, then 7 and 9 of learning, and no other code
 pub data Refused (t : List ℕ) : ℕ → ℕ → Type 0 where
   too-long : 24576 < length t → Refused t 13 0
   faulty : (k : ℕ) → length t ≤ 24576 → Place recording t k → Refused t 11 k
   too-many : (n : ℕ) → length t ≤ 24576 → Accepted recording n t → 1024 < length (textWords t) → Refused t 8 0
-  contradicted : (n k : ℕ) (ts : List ℕ) → Recorded t n ts → Contradicted n ts k → Refused t 7 k
-  too-large : (n k : ℕ) (ts : List ℕ) → Recorded t n ts → TooLarge n ts k → Refused t 9 k
+  contradicted : (n k : ℕ) (ts : List ℕ) → Recorded t n ts → LearnRefused n ts 1024 1024 7 k → Refused t 7 k
+  too-large : (n k : ℕ) (ts : List ℕ) → Recorded t n ts → LearnRefused n ts 1024 1024 9 k → Refused t 9 k
 
 -- ---- what is printed
 
@@ -88,7 +52,7 @@ pub record SheetPrinted (t out out′ : List ℕ) (r : ℕ) : Type 0 where
   pub ts : List ℕ
   pub s : List ℕ
   pub recorded : Recorded t n ts
-  pub learned : Learnable n ts
+  pub learned : Learnable n ts 1024 1024
   pub rising : increasing s ≡ true
   pub only-prime : (w : ℕ) → Mem w s → Prime n ts w
   pub all-prime : (w : ℕ) → Prime n ts w → Mem w s
