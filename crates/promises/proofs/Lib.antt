@@ -2,4 +2,3 @@ pub mod Learning
 pub mod TextToText
 pub mod OneText
 pub mod Exactly
-pub mod OneResult
