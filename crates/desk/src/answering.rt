@@ -1,4 +1,4 @@
-// One function for each call: makes it on the slices as they came, and puts its answer.
+// One function for each call: makes it on the slices as they came, and puts its answer. A session is taken through as a record that is lent.
 use crate::output::put_answer;
 use crate::output::put_bytes;
 use crate::output::put_session;
@@ -7,7 +7,7 @@ use crate::output::put_word;
 use sessions::Session;
 
 pub(crate) fn fresh(n: u32, sheet: &mut [u32]) -> bool {
-    let answer = calls::fresh(n, sheet);
+    let answer = public::fresh(n, sheet);
     put_answer(answer);
     put_slice(sheet)
 }
@@ -21,14 +21,14 @@ pub(crate) fn take(
     sheet: &mut [u32],
     sheets: usize,
 ) -> bool {
-    let answer = calls::take(n, i, j, book, books, sheet, sheets);
+    let answer = public::take(n, i, j, book, books, sheet, sheets);
     put_answer(answer);
     put_slice(book);
     put_slice(sheet)
 }
 
 pub(crate) fn learn(n: u32, words: &[u32], book: &mut [u32], sheet: &mut [u32]) -> bool {
-    let answer = learning::learn(n, words, book, sheet);
+    let answer = public::learn(n, words, book, sheet);
     put_answer(answer);
     put_slice(book);
     put_slice(sheet)
@@ -47,7 +47,7 @@ pub(crate) fn join(
     book: &mut [u32],
     sheet: &mut [u32],
 ) -> bool {
-    let answer = joining::join(
+    let answer = public::join(
         n,
         a_book,
         a_books,
@@ -66,13 +66,13 @@ pub(crate) fn join(
 }
 
 pub(crate) fn apply(n: u32, sheet: &[u32], sheets: usize, x: u32) -> bool {
-    let applied = calls::apply(n, sheet, sheets, x);
+    let applied = public::apply(n, sheet, sheets, x);
     put_answer(applied.answer);
     put_word(applied.state as usize)
 }
 
 pub(crate) fn start(n: u32, sheet: &mut [u32]) -> bool {
-    let outcome = Session::start(n, sheet);
+    let outcome = public::session_start(n, sheet);
     put_answer(outcome.answer);
     put_session(outcome.session);
     put_slice(sheet)
@@ -85,7 +85,7 @@ pub(crate) fn session_take(
     i: u32,
     j: u32,
 ) -> bool {
-    let outcome = session.take(book, sheet, i, j);
+    let outcome = public::session_take_lent(session, book, sheet, i, j);
     put_answer(outcome.answer);
     put_session(outcome.session);
     put_slice(book);
@@ -93,7 +93,7 @@ pub(crate) fn session_take(
 }
 
 pub(crate) fn read(text: &[u8], list: &mut [u32]) -> bool {
-    let answer = recording::read(text, list);
+    let answer = public::read(text, list);
     put_word(answer.code as usize);
     put_word(answer.place);
     put_word(answer.n as usize);
@@ -109,7 +109,7 @@ pub(crate) fn run(
     out: &mut [u8],
     words: &mut [u32],
 ) -> bool {
-    let length = program::run(text, list, book, sheet, out);
+    let length = public::run(text, list, book, sheet, out);
     put_word(length);
     put_slice(list);
     put_slice(book);
@@ -125,7 +125,7 @@ pub(crate) fn write(
     out: &mut [u8],
     words: &mut [u32],
 ) -> bool {
-    let written = writing::write_sheet(n, sheet, count, out);
+    let written = public::write_sheet(n, sheet, count, out);
     put_answer(written.answer);
     put_word(written.length);
     put_bytes(out, words)
