@@ -3,24 +3,11 @@ use answers::Answer;
 use recording::ReadAnswer;
 use sessions::Session;
 ghost use mathlib.Core.Path.{_≡_};
-ghost use mathlib.Core.Bool.{false};
 ghost use mathlib.Core.List.{_∷_, []};
-ghost use lib.ListN.{length};
-ghost use Rattle.calls.specs.Fresh.{Fresh};
-ghost use Rattle.calls.specs.Take.{Taken};
-ghost use Rattle.calls.specs.Apply.{applyAnswer};
-ghost use Rattle.learning.specs.Learn.{Learned};
+ghost use lib.ListN.{getD};
 ghost use Rattle.joining.specs.Joining.{piece};
-ghost use Rattle.recording.specs.Reading.{Reads};
-ghost use Rattle.writing.specs.Writing.{Writes};
-ghost use Rattle.program.specs.Program.{Runs};
-ghost use Rattle.exports.specs.Numbers.{numbers, numbersWith, appliedNumbers, readNumbers, narrowed, sessionIn, sessionNumbers, Hands, HandsJoined, HandsStarted, HandsTaken, HandsRead, HandsWritten};
-
-fn wide(x: u32) -> usize
-    ensures { λ r. ⌜ r ≡ x ⌝ }
-{
-    x as usize
-}
+ghost use Rattle.public.specs.PublicCalls.{fresh, take, learn, join, apply, session-start, lent-take, read, write-sheet, run};
+ghost use Rattle.exports.specs.Numbers.{numbers, numbersWith, readNumbers, sessionNumbers, sessionIn, sized, narrowed, Hands};
 
 fn narrow(x: usize) -> u32
     ensures { λ r. ⌜ r ≡ narrowed x ⌝ }
@@ -37,7 +24,7 @@ fn put_answer(a: Answer, out: &mut [usize; 6]) -> u32
 {
     let code = a.code;
     *out = [
-        wide(code),
+        code as usize,
         a.place,
         a.book_count,
         a.sheet_count,
@@ -53,7 +40,7 @@ fn put_with(a: Answer, more: usize, out: &mut [usize; 7]) -> u32
 {
     let code = a.code;
     *out = [
-        wide(code),
+        code as usize,
         a.place,
         a.book_count,
         a.sheet_count,
@@ -69,20 +56,20 @@ fn put_read(a: ReadAnswer, out: &mut [usize; 4]) -> u32
     ensures { λ r. ⌜ (now (out .exit) ≡ readNumbers a) × (r ≡ a .code) ⌝ }
 {
     let code = a.code;
-    *out = [wide(code), a.place, wide(a.n), a.count];
+    *out = [code as usize, a.place, a.n as usize, a.count];
     code
 }
 
 // The five numbers of a session, the first as given.
 fn put_session(first: usize, s: Session, out: &mut [usize; 5])
-    ensures { λ _. ⌜ now (out .exit) ≡ sessionNumbers first s ⌝ }
+    ensures { λ _. ⌜ now (out .exit) ≡ sessionNumbers (sized first s) ⌝ }
 {
     *out = [first, s.book_count, s.sheet_count, s.struck, s.added];
 }
 
 // The session that stands in five numbers.
 fn session_in(x: &[usize; 5]) -> Session
-    ensures { λ r. ⌜ r ≡ sessionIn (now (x .entry)) ⌝ }
+    ensures { λ r. ⌜ r ≡ sized (narrowed (getD (now (x .entry)) 0 0)) (sessionIn (now (x .entry))) ⌝ }
 {
     Session {
         n: narrow(x[0]),
@@ -95,9 +82,9 @@ fn session_in(x: &[usize; 5]) -> Session
 
 #[no_mangle]
 pub extern "C" fn ntekuzino_fresh(n: u32, sheet: &mut [u32], answer: &mut [usize; 6]) -> u32
-    ensures { λ r. ⌜ Hands (Fresh n (now (sheet .entry)) (now (sheet .exit))) (now (answer .exit)) r ⌝ }
+    ensures { λ r. ⌜ Hands (fresh n (now (sheet .entry))) (now (sheet .exit) ∷ []) (now (answer .exit)) r ⌝ }
 {
-    let a = calls::fresh(n, sheet);
+    let a = public::fresh(n, sheet);
     put_answer(a, answer)
 }
 
@@ -112,9 +99,9 @@ pub extern "C" fn ntekuzino_take(
     sheet_count: usize,
     answer: &mut [usize; 6],
 ) -> u32
-    ensures { λ r. ⌜ Hands (Taken false n (now (book .entry)) «book_count» (now (sheet .entry)) «sheet_count» i j (now (book .exit)) (now (sheet .exit))) (now (answer .exit)) r ⌝ }
+    ensures { λ r. ⌜ Hands (take n (now (book .entry)) «book_count» (now (sheet .entry)) «sheet_count» i j) (now (book .exit) ∷ now (sheet .exit) ∷ []) (now (answer .exit)) r ⌝ }
 {
-    let a = calls::take(n, i, j, book, book_count, sheet, sheet_count);
+    let a = public::take(n, i, j, book, book_count, sheet, sheet_count);
     put_answer(a, answer)
 }
 
@@ -126,9 +113,9 @@ pub extern "C" fn ntekuzino_learn(
     sheet: &mut [u32],
     answer: &mut [usize; 6],
 ) -> u32
-    ensures { λ r. ⌜ Hands (Learned n (now (words .entry)) (length (now (book .entry))) (length (now (sheet .entry))) (now (book .exit)) (now (sheet .exit))) (now (answer .exit)) r ⌝ }
+    ensures { λ r. ⌜ Hands (learn n (now (words .entry)) (now (book .entry)) (now (sheet .entry))) (now (book .exit) ∷ now (sheet .exit) ∷ []) (now (answer .exit)) r ⌝ }
 {
-    let a = learning::learn(n, words, book, sheet);
+    let a = public::learn(n, words, book, sheet);
     put_answer(a, answer)
 }
 
@@ -147,9 +134,9 @@ pub extern "C" fn ntekuzino_join(
     sheet: &mut [u32],
     answer: &mut [usize; 6],
 ) -> u32
-    ensures { λ r. ⌜ HandsJoined n (piece (now («a_book» .entry)) «a_book_count» (now («a_sheet» .entry)) «a_sheet_count») (piece (now («b_book» .entry)) «b_book_count» (now («b_sheet» .entry)) «b_sheet_count») (now (book .entry)) (now (sheet .entry)) (now (book .exit)) (now (sheet .exit)) (now (answer .exit)) r ⌝ }
+    ensures { λ r. ⌜ Hands (join n (piece (now («a_book» .entry)) «a_book_count» (now («a_sheet» .entry)) «a_sheet_count») (piece (now («b_book» .entry)) «b_book_count» (now («b_sheet» .entry)) «b_sheet_count») (now (book .entry)) (now (sheet .entry))) (now (book .exit) ∷ now (sheet .exit) ∷ []) (now (answer .exit)) r ⌝ }
 {
-    let a = joining::join(
+    let a = public::join(
         n,
         a_book,
         a_book_count,
@@ -173,10 +160,10 @@ pub extern "C" fn ntekuzino_apply(
     x: u32,
     answer: &mut [usize; 7],
 ) -> u32
-    ensures { λ r. ⌜ (now (answer .exit) ≡ appliedNumbers (applyAnswer n (now (sheet .entry)) «sheet_count» x)) × (r ≡ applyAnswer n (now (sheet .entry)) «sheet_count» x .answer .code) ⌝ }
+    ensures { λ r. ⌜ Hands (apply n (now (sheet .entry)) «sheet_count» x) [] (now (answer .exit)) r ⌝ }
 {
-    let a = calls::apply(n, sheet, sheet_count, x);
-    put_with(a.answer, wide(a.state), answer)
+    let a = public::apply(n, sheet, sheet_count, x);
+    put_with(a.answer, a.state as usize, answer)
 }
 
 #[no_mangle]
@@ -186,11 +173,11 @@ pub extern "C" fn ntekuzino_session_start(
     session: &mut [usize; 5],
     answer: &mut [usize; 6],
 ) -> u32
-    ensures { λ r. ⌜ HandsStarted n (now (sheet .entry)) (now (sheet .exit)) (now (session .exit)) (now (answer .exit)) r ⌝ }
+    ensures { λ r. ⌜ Hands (session-start n (now (sheet .entry))) (now (sheet .exit) ∷ now (session .exit) ∷ []) (now (answer .exit)) r ⌝ }
 {
-    let o = Session::start(n, sheet);
+    let o = public::session_start(n, sheet);
     let s = o.session;
-    put_session(wide(s.n), s, session);
+    put_session(s.n as usize, s, session);
     put_answer(o.answer, answer)
 }
 
@@ -203,20 +190,20 @@ pub extern "C" fn ntekuzino_session_take(
     j: u32,
     answer: &mut [usize; 6],
 ) -> u32
-    ensures { λ r. ⌜ HandsTaken (now (session .entry)) (now (book .entry)) (now (sheet .entry)) i j (now (session .exit)) (now (book .exit)) (now (sheet .exit)) (now (answer .exit)) r ⌝ }
+    ensures { λ r. ⌜ Hands (lent-take (sessionIn (now (session .entry))) (now (book .entry)) (now (sheet .entry)) i j) (now (session .exit) ∷ now (book .exit) ∷ now (sheet .exit) ∷ []) (now (answer .exit)) r ⌝ }
 {
     let first = session[0];
     let s = session_in(session);
-    let o = s.take(book, sheet, i, j);
+    let o = public::session_take_lent(s, book, sheet, i, j);
     put_session(first, o.session, session);
     put_answer(o.answer, answer)
 }
 
 #[no_mangle]
 pub extern "C" fn ntekuzino_read(text: &[u8], list: &mut [u32], answer: &mut [usize; 4]) -> u32
-    ensures { λ r. ⌜ HandsRead (Reads (now (text .entry)) (now (list .entry)) (now (list .exit))) (now (answer .exit)) r ⌝ }
+    ensures { λ r. ⌜ Hands (read (now (text .entry)) (now (list .entry))) (now (list .exit) ∷ []) (now (answer .exit)) r ⌝ }
 {
-    let a = recording::read(text, list);
+    let a = public::read(text, list);
     put_read(a, answer)
 }
 
@@ -228,9 +215,9 @@ pub extern "C" fn ntekuzino_write_sheet(
     out: &mut [u8],
     answer: &mut [usize; 7],
 ) -> u32
-    ensures { λ r. ⌜ HandsWritten (Writes n (now (sheet .entry)) «sheet_count» (now (out .entry)) (now (out .exit))) (now (answer .exit)) r ⌝ }
+    ensures { λ r. ⌜ Hands (write-sheet n (now (sheet .entry)) «sheet_count» (now (out .entry))) (now (out .exit) ∷ []) (now (answer .exit)) r ⌝ }
 {
-    let a = writing::write_sheet(n, sheet, sheet_count, out);
+    let a = public::write_sheet(n, sheet, sheet_count, out);
     put_with(a.answer, a.length, answer)
 }
 
@@ -243,7 +230,7 @@ pub extern "C" fn ntekuzino_run(
     sheet: &mut [u32],
     output: &mut [u8],
 ) -> usize
-    ensures { λ r. ⌜ Runs (now (input .entry)) (now (list .entry)) (now (book .entry)) (now (sheet .entry)) (now (output .entry)) (now (list .exit)) (now (book .exit)) (now (sheet .exit)) (now (output .exit)) r ⌝ }
+    ensures { λ r. ⌜ Hands (run (now (input .entry)) (now (list .entry)) (now (book .entry)) (now (sheet .entry)) (now (output .entry))) (now (list .exit) ∷ now (book .exit) ∷ now (sheet .exit) ∷ now (output .exit) ∷ []) [] r ⌝ }
 {
-    program::run(input, list, book, sheet, output)
+    public::run(input, list, book, sheet, output)
 }

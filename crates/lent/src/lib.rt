@@ -1,5 +1,6 @@
 // The bench session as one record that the caller lends: a thin take around the one by value.
 use answers::Answer;
+use sessions::Outcome;
 use sessions::Session;
 ghost use Rattle.lent.specs.Lent.{TakesLent};
 
@@ -20,4 +21,22 @@ pub fn take_lent(
     session.struck = outcome.session.struck;
     session.added = outcome.session.added;
     outcome.answer
+}
+
+// The same for a caller that has a session by value: a record of its own is lent, and what is left in it is returned.
+pub fn lend_to_take(
+    session: Session,
+    book: &mut [u32],
+    sheet: &mut [u32],
+    i: u32,
+    j: u32,
+) -> Outcome
+    ensures { λ r. ⌜ TakesLent session (now (book .entry)) (now (sheet .entry)) i j (r .session) (now (book .exit)) (now (sheet .exit)) (r .answer) ⌝ }
+{
+    let mut kept = session;
+    let answer = take_lent(&mut kept, book, sheet, i, j);
+    Outcome {
+        answer,
+        session: kept,
+    }
 }

@@ -1,5 +1,6 @@
--- `exports::ntekuzino_session_take` meets its contract: the numbers stored are those of the outcome of `take` on the session that was read.
-use Rattle.exports.proofs.Told.{takes-told}
+-- `exports::ntekuzino_session_take` meets its contract: the numbers stored are those of the take on the session that was read.
+use denote.Ref.{now}
+use Rattle.exports.proofs.Sessions.{take-handed}
 use borrow.Author.Needs.{needs}
 use Rattle.exports.proofs.ntekuzino_session_take.Statement.{statement}
 use Rattle.exports.proofs.ntekuzino_session_take.Tie as tie
@@ -8,7 +9,7 @@ use Rattle.exports.proofs.ntekuzino_session_take.Lts as lts
 use Rattle.exports.proofs.put_answer.Reads as put-answer-reads
 use Rattle.exports.proofs.put_session.Reads as put-session-reads
 use Rattle.exports.proofs.session_in.Reads as session-in-reads
-use Rattle.sessions.proofs.Session.take.Reads as take-reads
+use Rattle.public.proofs.session_take_lent.Reads as session-take-lent-reads
 
 element-copy-out-first : tie.Need-element-copy-out-first
 element-copy-out-first c = search needs
@@ -16,8 +17,8 @@ element-copy-out-first c = search needs
 session-in-requires : tie.Need-session-in-requires
 session-in-requires c κs = search needs
 
-take-requires : tie.Need-take-requires
-take-requires c κs = search needs
+session-take-lent-requires : tie.Need-session-take-lent-requires
+session-take-lent-requires c κs = search needs
 
 put-session-requires : tie.Need-put-session-requires
 put-session-requires c κs = search needs
@@ -33,8 +34,8 @@ same-length-2 c = search needs
 
 returns : tie.Need-returns
 returns c =
-    let o = c .before .before .before .before .before .before .before .before .take .result in
-    record { given = o; meets = takes-told _ _ _ _ _ _ _ _ o (c .before .before .before .before .before .before .before .before .before .before .before .session-in .ensures) (c .before .before .before .before .before .before .before .before .take .ensures); kept = c .before .before .put-session .ensures; stored = c .put-answer .ensures .0; code = c .put-answer .ensures .1 }
+    let taken = c .before .before .before .before .before .before .before .before .session-take-lent in
+    take-handed (now (c .before .before .before .before .before .before .before .before .before .before .before .before .before .before .before .before .args .session)) _ _ _ _ _ (taken .result) _ _ _ _ _ (c .before .before .before .before .before .before .before .before .before .before .before .session-in .ensures) (taken .ensures) (c .before .before .put-session .ensures) (c .put-answer .ensures .0) (c .put-answer .ensures .1)
 
 pub ntekuzino-session-take-spec : {M : Type 1} → statement M
 ntekuzino-session-take-spec =
@@ -42,7 +43,7 @@ ntekuzino-session-take-spec =
     (tie.spec
     element-copy-out-first
     session-in-requires
-    take-requires
+    session-take-lent-requires
     put-session-requires
     put-answer-requires
     same-length

@@ -1,6 +1,8 @@
 -- `exports::session_in` meets its contract: four numbers are read as they stand, the first is narrowed.
+use mathlib.Core.Path.{ap}
+use Prim.Native.Nat.{ℕ}
 use denote.Ref.{now}
-use Rattle.exports.proofs.Told.{session-told}
+use Rattle.exports.specs.Numbers.{sessionIn, sized}
 use borrow.Author.Needs.{needs}
 use Rattle.exports.proofs.session_in.Statement.{statement}
 use Rattle.exports.proofs.session_in.Tie as tie
@@ -27,7 +29,7 @@ element-copy-out-t17 : tie.Need-element-copy-out-t17
 element-copy-out-t17 c = search needs
 
 returns : tie.Need-returns
-returns c = session-told (now (c .before .before .before .before .before .before .args .x)) _ (c .before .before .before .before .narrow .ensures)
+returns c = ap (λ (k : ℕ). sized k (sessionIn (now (c .before .before .before .before .before .before .args .x)))) (c .before .before .before .before .narrow .ensures)
 
 pub session-in-spec : {M : Type 1} → statement M
 session-in-spec =

@@ -9,7 +9,7 @@ use Rattle.lent.proofs.Laws.{lent-determined}
 use Rattle.recording.proofs.ReadLaws.{read-unique}
 use Rattle.writing.proofs.WriteLaws.{write-unique}
 use Rattle.program.proofs.Promises.{run-unique}
-use Rattle.promises.specs.PublicCalls.{Call, fresh, take, learn, join, apply, session-start, session-take, lent-take, read, write-sheet, run, Result, Contract}
+use Rattle.public.specs.PublicCalls.{Call, fresh, take, learn, join, apply, session-start, session-take, lent-take, read, write-sheet, run, Result, Contract}
 
 pub one-result : (c : Call) (r q : Result c) → Contract c r → Contract c q → r ≡ q
 one-result (fresh n sheet) r q x y = let e = fresh-determined n sheet (r .1) (q .1) (r .0) (q .0) x y in λ i. (e .0 i, e .1 i)

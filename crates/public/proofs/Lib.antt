@@ -1,0 +1,2 @@
+pub mod OneResult
+pub mod LentStated

@@ -1,0 +1,136 @@
+// The public calls, all of them, each stated by the one `Contract`: what it is called with, what it answers, and what it leaves in every slice or record lent to it.
+use answers::Answer;
+use calls::Applied;
+use recording::ReadAnswer;
+use sessions::Outcome;
+use sessions::Session;
+use writing::WriteAnswer;
+ghost use Rattle.joining.specs.Joining.{piece};
+ghost use Rattle.public.specs.PublicCalls.{fresh, take, learn, join, apply, session-start, session-take, lent-take, read, write-sheet, run, Contract};
+
+// Writes the fresh sheet: n rules with empty bodies.
+pub fn fresh(n: u32, sheet: &mut [u32]) -> Answer
+    ensures { λ r. ⌜ Contract (fresh n (now (sheet .entry))) (r, now (sheet .exit)) ⌝ }
+{
+    calls::fresh(n, sheet)
+}
+
+// Takes the transition from state i to state j into book and sheet.
+pub fn take(
+    n: u32,
+    i: u32,
+    j: u32,
+    book: &mut [u32],
+    books: usize,
+    sheet: &mut [u32],
+    sheets: usize,
+) -> Answer
+    ensures { λ r. ⌜ Contract (take n (now (book .entry)) books (now (sheet .entry)) sheets i j) (r, now (book .exit), now (sheet .exit)) ⌝ }
+{
+    calls::take(n, i, j, book, books, sheet, sheets)
+}
+
+// Learns a list of transition words.
+pub fn learn(n: u32, words: &[u32], book: &mut [u32], sheet: &mut [u32]) -> Answer
+    ensures { λ r. ⌜ Contract (learn n (now (words .entry)) (now (book .entry)) (now (sheet .entry))) (r, now (book .exit), now (sheet .exit)) ⌝ }
+{
+    learning::learn(n, words, book, sheet)
+}
+
+// Joins two pieces, each a book and a sheet.
+pub fn join(
+    n: u32,
+    a_book: &[u32],
+    a_books: usize,
+    a_sheet: &[u32],
+    a_sheets: usize,
+    b_book: &[u32],
+    b_books: usize,
+    b_sheet: &[u32],
+    b_sheets: usize,
+    book: &mut [u32],
+    sheet: &mut [u32],
+) -> Answer
+    ensures { λ r. ⌜ Contract (join n (piece (now («a_book» .entry)) «a_books» (now («a_sheet» .entry)) «a_sheets») (piece (now («b_book» .entry)) «b_books» (now («b_sheet» .entry)) «b_sheets») (now (book .entry)) (now (sheet .entry))) (r, now (book .exit), now (sheet .exit)) ⌝ }
+{
+    joining::join(
+        n,
+        a_book,
+        a_books,
+        a_sheet,
+        a_sheets,
+        b_book,
+        b_books,
+        b_sheet,
+        b_sheets,
+        book,
+        sheet,
+    )
+}
+
+// The state that follows x by the sheet.
+pub fn apply(n: u32, sheet: &[u32], sheets: usize, x: u32) -> Applied
+    ensures { λ r. ⌜ Contract (apply n (now (sheet .entry)) sheets x) r ⌝ }
+{
+    calls::apply(n, sheet, sheets, x)
+}
+
+// Starts a session on a fresh sheet.
+pub fn session_start(n: u32, sheet: &mut [u32]) -> Outcome
+    ensures { λ r. ⌜ Contract (session-start n (now (sheet .entry))) (r, now (sheet .exit)) ⌝ }
+{
+    Session::start(n, sheet)
+}
+
+// Takes one transition through a session by value.
+pub fn session_take(
+    session: Session,
+    book: &mut [u32],
+    sheet: &mut [u32],
+    i: u32,
+    j: u32,
+) -> Outcome
+    ensures { λ r. ⌜ Contract (session-take session (now (book .entry)) (now (sheet .entry)) i j) (r, now (book .exit), now (sheet .exit)) ⌝ }
+{
+    session.take(book, sheet, i, j)
+}
+
+// The same through a record that is lent for it.
+pub fn session_take_lent(
+    session: Session,
+    book: &mut [u32],
+    sheet: &mut [u32],
+    i: u32,
+    j: u32,
+) -> Outcome
+    ensures { λ r. ⌜ Contract (lent-take session (now (book .entry)) (now (sheet .entry)) i j) (r .answer, r .session, now (book .exit), now (sheet .exit)) ⌝ }
+{
+    lent::lend_to_take(session, book, sheet, i, j)
+}
+
+// Reads a recording's text into transition words.
+pub fn read(text: &[u8], list: &mut [u32]) -> ReadAnswer
+    ensures { λ r. ⌜ Contract (read (now (text .entry)) (now (list .entry))) (r, now (list .exit)) ⌝ }
+{
+    recording::read(text, list)
+}
+
+// Writes a sheet as text.
+pub fn write_sheet(n: u32, sheet: &[u32], count: usize, out: &mut [u8]) -> WriteAnswer
+    ensures { λ r. ⌜ Contract (write-sheet n (now (sheet .entry)) count (now (out .entry))) (r, now (out .exit)) ⌝ }
+{
+    writing::write_sheet(n, sheet, count, out)
+}
+
+// The whole program on slices: the length of what stands in `output`.
+pub fn run(
+    input: &[u8],
+    list: &mut [u32],
+    book: &mut [u32],
+    sheet: &mut [u32],
+    output: &mut [u8],
+) -> usize
+    ensures { λ r. ⌜ Contract (run (now (input .entry)) (now (list .entry)) (now (book .entry)) (now (sheet .entry)) (now (output .entry))) (r, now (list .exit), now (book .exit), now (sheet .exit), now (output .exit)) ⌝ }
+{
+    program::run(input, list, book, sheet, output)
+}
