@@ -1,6 +1,5 @@
 -- No definition of learning is empty: a list that nothing stops, and one for each refusal, by the bench examples and a few lists like them.
-use mathlib.Core.Path.{_≡_, refl, sym, ap, _∙_}
-use mathlib.Core.Bool.{true, false}
+use mathlib.Core.Path.{refl}
 use mathlib.Core.List.{List, [], _∷_}
 use Prim.Native.Nat.{ℕ}
 use native.Mathlib.Omega.{arith}
@@ -11,7 +10,6 @@ use Rattle.panel.specs.Rules.{ruleWord, head, mustOn, mustOff, validRule, cover
 use Rattle.panel.specs.Transitions.{transitionWord, state, next, observed, validTransition, rests, spared}
 use Rattle.prime.specs.Books.{goodBook, booked}
 use Rattle.prime.specs.Sheets.{least, sheetWhere, permits, goodSheet, freshSheet, takeSheet, struckCount, addedCount, pullsIn, applySheet}
-use Rattle.answers.specs.declared.Answer.{Answer}
 use Rattle.learning.specs.Learn.{taken, learnStep, learnWords, learnStart, reproduced, learnEnd, learnRun, runAnswer, runBook, runSheet, Learned}
 use Rattle.handover.specs.Learning.{Learnable, LearnRefused}
 use Rattle.handover.proofs.Learning.{learned-exactly, refused-exactly}

@@ -1,7 +1,7 @@
 -- Learn in any room: its answer is 0 exactly where nothing stops learning, and else it is exactly the refusal of its words, over its contract and nothing else.
 use mathlib.Core.Path.{_≡_, refl, sym, ap, _∙_, subst}
 use mathlib.Core.Logic.{_⊎_, inl, inr, _↔_}
-use mathlib.Core.Bool.{Bool, true, false, false≢true}
+use mathlib.Core.Bool.{true, false, false≢true}
 use mathlib.Core.List.{List, [], _∷_, _++_, List·Memᴰ as Mem, List·Memᴰ·head as here, List·Memᴰ·append-cases, List·Memᴰ·eq-of-singleton, Memᴰ·append-left, Memᴰ·append-right, Memᴰ·cast, append-assoc, append-nil, nil≢cons, head-eq-of-cons-eq, tail-eq-of-cons-eq}
 use Prim.Native.Nat.{ℕ, _+_, _≤_, _<_}
 use native.Mathlib.Omega.{arith}
@@ -13,14 +13,14 @@ use Rattle.panel.specs.Masks.{panelSize}
 use Rattle.panel.specs.Transitions.{state, next, validTransition}
 use Rattle.panel.proofs.Transitions.{transition-i, same-transition}
 use Rattle.prime.specs.Books.{booked}
-use Rattle.prime.specs.Sheets.{freshSheet, takeSheet, sheetOf, struckCount, addedCount}
+use Rattle.prime.specs.Sheets.{takeSheet, sheetOf, struckCount, addedCount}
 use Rattle.prime.proofs.Books.{book-e, book-increasing}
 use Rattle.prime.proofs.Laws.{fresh-sheetOf, sheetOf-members}
 use Rattle.book.proofs.Finding.{booked-e}
 use Rattle.sheet.proofs.Fresh.{fresh-length}
 use Rattle.calls.proofs.Codes.{size-of}
 use Rattle.answers.specs.declared.Answer.{Answer}
-use Rattle.learning.specs.Learn.{Run, going, refused, learnRun, learnWords, learnStart, runAnswer, Learned}
+use Rattle.learning.specs.Learn.{Run, going, refused, learnRun, runAnswer, Learned}
 use Rattle.learning.proofs.Ways.{Opening, two, nine-at-once, opened, Way, six, passed-over, seven, eight, nine, taken-up, run-keeps}
 use Rattle.joining.specs.Joining.{Piece, bookIn}
 use Rattle.handover.specs.Demands.{InUse}

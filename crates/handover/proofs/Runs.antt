@@ -7,7 +7,7 @@ use Prim.Native.Nat.{ℕ, _+_, _≤_}
 use native.Mathlib.Omega.{arith}
 use lib.ListN.{length}
 use borrow.Author.Tests.{eq-eqb, le-ltb}
-use Rattle.table.specs.Lists.{has, insert, increasing}
+use Rattle.table.specs.Lists.{insert, increasing}
 use Rattle.table.specs.Surgery.{oneMoreIf}
 use Rattle.table.proofs.Counting.{has-e}
 use Rattle.table.proofs.Inserting.{insert-e, insert-new, insert-old}

@@ -1,17 +1,15 @@
 -- The definitions of learning leave no choice: what is learnable is not refused, and a refusal has one code and one place.
 use mathlib.Core.Path.{_≡_, refl, sym, ap, _∙_, subst}
-use mathlib.Core.Bool.{true, false, false≢true}
+use mathlib.Core.Bool.{false≢true}
 use mathlib.Core.List.{List, [], _∷_, _++_, List·Memᴰ as Mem, List·Memᴰ·head as here, Memᴰ·append-left, Memᴰ·append-right, append-assoc, head-eq-of-cons-eq, tail-eq-of-cons-eq}
-use Prim.Native.Nat.{ℕ, _≤_, _<_}
+use Prim.Native.Nat.{ℕ, _≤_}
 use native.Mathlib.Omega.{arith}
 use lib.ListN.{length}
-use Rattle.panel.specs.Masks.{panelSize}
-use Rattle.panel.specs.Transitions.{state, next, validTransition}
-use Rattle.prime.specs.Sheets.{sheetOf}
+use Rattle.panel.specs.Transitions.{state, next}
 use Rattle.prime.proofs.Laws.{fresh-sheetOf}
 use Rattle.sheet.proofs.Fresh.{fresh-length}
 use Rattle.calls.proofs.Codes.{size-of}
-use Rattle.handover.specs.Learning.{bookOf, OneNext, Learnable, Before, Agrees, Stops, invalid, contradicted, book-full, sheet-full, LearnRefused, no-panel, no-room, at-word}
+use Rattle.handover.specs.Learning.{bookOf, Learnable, Before, Agrees, Stops, invalid, contradicted, book-full, sheet-full, LearnRefused, no-panel, no-room, at-word}
 use Rattle.handover.proofs.BookOf.{book-more}
 
 -- ---- words of a list

@@ -1,20 +1,15 @@
 -- In the program's rooms something is always printed: the places of refusals are small, so that their lines fit.
 use Prim.Native.Nat.{ℕ, zero, suc, _+_, _≤_, _<_}
 use mathlib.Core.Path.{_≡_, refl, ap}
-use mathlib.Core.List.{List, [], _∷_}
+use mathlib.Core.List.{List, [], _∷_, _++_}
 use mathlib.Core.Logic.{inl, inr}
-use mathlib.Core.Bool.{Bool, true, false, not, cond}
+use mathlib.Core.Bool.{Bool, true, false, cond}
 use native.Mathlib.Omega.{arith}
 use lib.Dec.{leb, ltb}
 use lib.ListN.{length, take, length-append, length-take}
 use borrow.Author.Tests.{ltb-true, ltb-false}
-use Rattle.table.specs.Lists.{has}
 use Rattle.table.proofs.Inserting.{insert-length}
 use Rattle.answers.specs.Answers.{refuse}
-use Rattle.panel.specs.Masks.{panelSize}
-use Rattle.panel.specs.Transitions.{validTransition}
-use Rattle.prime.specs.Books.{booked}
-use Rattle.prime.specs.Sheets.{freshSheet, takeSheet}
 use Rattle.fields.proofs.TextLaws.{lines-few}
 use Rattle.headers.specs.Layouts.{recording}
 use Rattle.headers.specs.Verdicts.{judgeOf}
@@ -24,8 +19,9 @@ use Rattle.headers.specs.declared.Verdict.the-variants.{Good, Bad}
 use Rattle.headers.proofs.PlaceLaws.{bad-iff-place}
 use Rattle.recording.specs.Rows.{textWords}
 use Rattle.recording.specs.Reading.{refusal, answerFor, readAnswer, readList}
-use Rattle.learning.specs.Learn.{Run, going, refused, choose, taken, learnStep, learnWords, learnStart, reproduced, learnEnd, learnRun}
+use Rattle.learning.specs.Learn.{Run, going, refused, choose, reproduced, learnEnd, learnRun}
 use Rattle.learning.specs.Running.{runIf}
+use Rattle.learning.proofs.Ways.{Opening, two, nine-at-once, opened, Way, six, passed-over, seven, eight, nine, taken-up, run-keeps}
 use Rattle.writing.specs.SheetText.{sheetText}
 use Rattle.writing.specs.Writing.{textLength}
 use Rattle.writing.proofs.TextLaws.{sheet-length}
@@ -72,43 +68,37 @@ abbrev Placed : ℕ → ℕ → Run → Type 0
 Placed m bookRoom (going b s x y) = length b ≤ bookRoom
 Placed m bookRoom (refused c p) = (c ≤ 13) × (p ≤ m)
 
-module _ (m n bookRoom room : ℕ) (fits : bookRoom ≤ m) where
-  choose-placed : (t : Bool) (q r : Run) → (t ≡ true → Placed m bookRoom q) → (t ≡ false → Placed m bookRoom r) → Placed m bookRoom (choose t q r)
-  choose-placed true q r h k = h refl
-  choose-placed false q r h k = k refl
+module _ (n bookRoom room : ℕ) where
+  start-placed : (r : Run) → Opening n room r → Placed 0 bookRoom r
+  start-placed _ (two e) = (omega arith, omega arith)
+  start-placed _ (nine-at-once e f) = (omega arith, omega arith)
+  start-placed _ (opened e f) = omega arith
 
-  start-placed : Placed m bookRoom (learnStart n room)
-  unfolding learnStart
-  start-placed =
-      choose-placed (not (panelSize n)) (refused 2 0) _ (λ e. (omega arith, omega arith)) (λ e.
-      choose-placed (ltb room n) (refused 9 0) (going [] (freshSheet n) 0 0) (λ f. (omega arith, omega arith)) (λ f. omega arith))
+  more-placed : (ps : List ℕ) (t c p : ℕ) → Placed (length ps) bookRoom (refused c p) → Placed (length (ps ++ t ∷ [])) bookRoom (refused c p)
+  more-placed ps t c p h = (h .0, omega (arith, h .1, length-append ps (t ∷ [])))
 
-  step-placed : (k t : ℕ) → k ≤ m → (r : Run) → Placed m bookRoom r → Placed m bookRoom (learnStep n bookRoom room k t r)
-  unfolding learnStep taken
-  step-placed k t l (refused c p) h = h
-  step-placed k t l (going b s x y) h =
-      choose-placed (not (validTransition n t)) (refused 6 k) _ (λ e. (omega arith, l)) (λ e.
-      choose-placed (has t b) (going b s x y) _ (λ f. h) (λ f.
-      choose-placed (booked t b) (refused 7 k) _ (λ g. (omega arith, l)) (λ g.
-      choose-placed (ltb bookRoom (length b + 1)) (refused 8 k) _ (λ i. (omega arith, l)) (λ i.
-      choose-placed (ltb room (length (takeSheet n s t))) (refused 9 k) _ (λ j. (omega arith, l)) (λ j.
-      omega (arith, insert-length t b, ltb-false bookRoom (length b + 1) i))))))
+  -- a refusal at the word t has its number
+  word-placed : (ps : List ℕ) (t : ℕ) (b s : List ℕ) (x y : ℕ) (r : Run) → Placed (length ps) bookRoom (going b s x y) → Way n bookRoom room (length ps) t b s x y r
+      → Placed (length (ps ++ t ∷ [])) bookRoom r
+  word-placed ps t b s x y _ h (six e) = more-placed ps t 6 (length ps) (omega arith, omega arith)
+  word-placed ps t b s x y _ h (passed-over v e) = h
+  word-placed ps t b s x y _ h (seven v e f) = more-placed ps t 7 (length ps) (omega arith, omega arith)
+  word-placed ps t b s x y _ h (eight v e f) = more-placed ps t 8 (length ps) (omega arith, omega arith)
+  word-placed ps t b s x y _ h (nine v e f g) = more-placed ps t 9 (length ps) (omega arith, omega arith)
+  word-placed ps t b s x y _ h (taken-up v e f g) = omega (arith, insert-length t b, f)
 
-  words-placed : (k : ℕ) (ts : List ℕ) → k + length ts ≤ m → (r : Run) → Placed m bookRoom r → Placed m bookRoom (learnWords n bookRoom room k ts r)
-  unfolding learnWords
-  words-placed k [] l r h = h
-  words-placed k (t ∷ ts) l r h = words-placed (k + 1) ts (omega arith) (learnStep n bookRoom room k t r) (step-placed k t (omega arith) r h)
-
-  end-placed : (r : Run) → Placed m bookRoom r → Placed m bookRoom (learnEnd n r)
+  end-placed : (m k : ℕ) → k ≤ m → bookRoom ≤ m → (r : Run) → Placed k bookRoom r → Placed m bookRoom (learnEnd n r)
   unfolding learnEnd
-  end-placed (refused c p) h = h
-  end-placed (going b s x y) h =
-      choose-placed (ltb (reproduced n s b) (length b)) (refused 10 (reproduced n s b)) (going b s x y)
-      (λ e. (omega arith, omega (arith, h, ltb-true (reproduced n s b) (length b) e))) (λ e. h)
+  end-placed m k l f (refused c p) h = (h .0, omega (arith, h .1))
+  end-placed m k l f (going b s x y) h = go (ltb (reproduced n s b) (length b)) refl
+    where
+      go : (t : Bool) → ltb (reproduced n s b) (length b) ≡ t → Placed m bookRoom (choose t (refused 10 (reproduced n s b)) (going b s x y))
+      go true e = (omega arith, omega (arith, h, ltb-true (reproduced n s b) (length b) e))
+      go false e = h
 
-  learn-placed : (ts : List ℕ) → length ts ≤ m → Placed m bookRoom (learnRun n bookRoom room ts)
+  learn-placed : (m : ℕ) (ts : List ℕ) → length ts ≤ m → bookRoom ≤ m → Placed m bookRoom (learnRun n bookRoom room ts)
   unfolding learnRun
-  learn-placed ts l = end-placed _ (words-placed 0 ts (omega arith) (learnStart n room) start-placed)
+  learn-placed m ts l f = end-placed m (length ts) l f _ (run-keeps n bookRoom room (λ ps r. Placed (length ps) bookRoom r) start-placed more-placed word-placed ts)
 
 -- ---- printing
 
@@ -142,6 +132,6 @@ run-answers {t = t} {list = list} {book = book} {sheet = sheet} {out = out} q h 
     let ts = take (readAnswer t (length list) .count) (readList t (length list)) in
     let few : length ts ≤ 24577 = omega (arith, length-take (readAnswer t (length list) .count) (readList t (length list)), count-within t (length list)) in
     let e = entry-small t (length list) in
-    let w = learn-placed 24577 n (length book) (length sheet) (omega arith) ts few in
+    let w = learn-placed n (length book) (length sheet) 24577 ts few (omega arith) in
     rw (q .long) (entry-some n (length out) (entryCode t (length list)) (entryPlace t (length list)) _ (e .0) (e .1) l
     (text-some n (length book) (length out) l (learnRun n (length book) (length sheet) ts) w))

@@ -1,9 +1,9 @@
 -- Learning in the program's rooms: at most 1,024 valid words of a panel are stopped by a state with two successors or by too many prime rules, and by nothing else.
 use mathlib.Core.Path.{_≡_, refl, sym, ap, _∙_}
 use mathlib.Core.Logic.{_⊎_, inl, inr}
-use mathlib.Core.Bool.{true, false, false≢true}
+use mathlib.Core.Bool.{true, false≢true}
 use mathlib.Core.List.{List, [], _∷_, _++_, List·Memᴰ as Mem, List·Memᴰ·head as here, Memᴰ·append-left, Memᴰ·append-right, append-assoc}
-use Prim.Native.Nat.{ℕ, _≤_, _<_}
+use Prim.Native.Nat.{ℕ, _≤_}
 use native.Mathlib.Omega.{arith}
 use lib.ListN.{length, length-append}
 use Rattle.table.specs.Lists.{all}
@@ -12,7 +12,7 @@ use Rattle.panel.specs.Masks.{panelSize}
 use Rattle.panel.specs.Transitions.{validTransition}
 use Rattle.prime.specs.Sheets.{sheetOf}
 use Rattle.writing.proofs.WriteLaws.{size-small}
-use Rattle.handover.specs.Learning.{bookOf, OneNext, Learnable, Before, Stops, invalid, contradicted, book-full, sheet-full, LearnRefused, no-panel, no-room, at-word}
+use Rattle.handover.specs.Learning.{bookOf, OneNext, Learnable, invalid, contradicted, book-full, sheet-full, LearnRefused, no-panel, no-room, at-word}
 use Rattle.handover.proofs.BookOf.{book-few}
 
 module _ (n : ℕ) (size : panelSize n ≡ true) (ts : List ℕ) (ok : all (validTransition n) ts ≡ true) (few : length ts ≤ 1024) where

@@ -2,7 +2,7 @@
 use mathlib.Core.Path.{_≡_, refl, sym, ap, _∙_, subst}
 use mathlib.Core.Logic.{_⊎_, inl, inr, _↔_}
 use mathlib.Core.Bool.{Bool, true, false, not, _&&_, _||_, cond, false≢true}
-use mathlib.Core.List.{List, [], _∷_, _++_}
+use mathlib.Core.List.{List, [], _∷_}
 use Prim.Native.Nat.{ℕ, zero, suc, _+_, _^_, _≤_, _<_}
 use native.Mathlib.Omega.{arith}
 use lib.Dec.{ltb, leb, eqb}
@@ -15,7 +15,7 @@ use Rattle.table.proofs.Inserting.{insert-length}
 use Rattle.panel.specs.Masks.{panelSize}
 use Rattle.panel.specs.Transitions.{transitionWord}
 use Rattle.prime.specs.Books.{goodBook, booked, clash}
-use Rattle.prime.specs.Sheets.{goodSheet, freshSheet, takeSheet, sheetOf, struckCount, addedCount}
+use Rattle.prime.specs.Sheets.{goodSheet, freshSheet, takeSheet, struckCount, addedCount}
 use Rattle.book.proofs.Finding.{booked-i}
 use Rattle.sheet.proofs.Fresh.{fresh-length}
 use Rattle.answers.specs.Answers.{refuse, plain, done, answerIf}
@@ -44,7 +44,7 @@ use Rattle.writing.specs.Writing.{writeCode, Writes}
 use Rattle.writing.specs.declared.WriteAnswer.{WriteAnswer}
 use Rattle.writing.proofs.WriteLaws.{size-small}
 use Rattle.program.specs.Program.{Runs}
-use Rattle.handover.specs.Learning.{bookOf, Learnable, Before, Agrees, Stops, invalid, contradicted, book-full, sheet-full, LearnRefused, no-panel, no-room, at-word}
+use Rattle.handover.specs.Learning.{invalid, contradicted, book-full, sheet-full, LearnRefused, no-panel, no-room, at-word}
 use Rattle.handover.proofs.Learning.{refused-exactly}
 use Rattle.handover.proofs.LearnInstances.{instances}
 use Rattle.promises.specs.NoRoom.{FreshNine, TakeEight, TakeNine, SessionEight, SessionNine, BookFull, SheetFull, LearnEight, LearnNine, JoinEight, JoinNine, ReadEight, WriteTwelve, RunEight, RunNine, RunTwelve}
