@@ -52,18 +52,31 @@ two-ways = 46 ∷ 105 ∷ 32 ∷ 49 ∷ 10 ∷ 46 ∷ 111 ∷ 32 ∷ 49 ∷ 10 �
 abbrev too-many-rows : List ℕ
 too-many-rows = 46 ∷ 105 ∷ 32 ∷ 49 ∷ 48 ∷ 10 ∷ 46 ∷ 111 ∷ 32 ∷ 49 ∷ 48 ∷ 10 ∷ 45 ∷ 45 ∷ 45 ∷ 45 ∷ 45 ∷ 45 ∷ 45 ∷ 45 ∷ 45 ∷ 45 ∷ 32 ∷ 48 ∷ 48 ∷ 48 ∷ 48 ∷ 48 ∷ 48 ∷ 48 ∷ 48 ∷ 48 ∷ 48 ∷ 10 ∷ 48 ∷ 48 ∷ 48 ∷ 48 ∷ 48 ∷ 48 ∷ 48 ∷ 48 ∷ 48 ∷ 48 ∷ 32 ∷ 48 ∷ 48 ∷ 48 ∷ 48 ∷ 48 ∷ 48 ∷ 48 ∷ 48 ∷ 48 ∷ 48 ∷ 10 ∷ 46 ∷ 101 ∷ 10 ∷ []
 
--- their words, and what their layout is judged to be
-words-are : (textWords two-rows ≡ 1024 ∷ 0 ∷ []) × (textWords one-dash ≡ 0 ∷ 1024 ∷ 0 ∷ []) × (textWords two-ways ≡ 0 ∷ 1 ∷ [])
-unfolding on relays allOn allOff transitionWord markOf run same linesOf body cubeOf digits numberOf fieldsFrom fieldsIn keyOf typedOf rowLine classOf ofFields lineOf openOf fitsOf readyOf finishOf judgeLines judgeOf matchesOf wordsBelow linesWords textWords
-words-are = (refl, refl, refl)
+-- their words, and how their layout is judged; the empty text has no good one
+record Texts : Type 0 where
+  two-rows-words : textWords two-rows ≡ 1024 ∷ 0 ∷ []
+  one-dash-words : textWords one-dash ≡ 0 ∷ 1024 ∷ 0 ∷ []
+  two-ways-words : textWords two-ways ≡ 0 ∷ 1 ∷ []
+  many-words : 1024 < length (textWords too-many-rows)
+  two-rows-good : judgeOf Recording two-rows ≡ Good 1
+  one-dash-good : judgeOf Recording one-dash ≡ Good 1
+  two-ways-good : judgeOf Recording two-ways ≡ Good 1
+  many-good : judgeOf Recording too-many-rows ≡ Good 10
+  empty-bad : judgeOf Recording [] ≡ Bad 1
 
-layouts-are : (judgeOf Recording two-rows ≡ Good 1) × (judgeOf Recording one-dash ≡ Good 1) × (judgeOf Recording two-ways ≡ Good 1) × (judgeOf Recording too-many-rows ≡ Good 10) × (judgeOf Recording [] ≡ Bad 1)
+texts : Texts
 unfolding on relays allOn allOff transitionWord markOf run same linesOf body cubeOf digits numberOf fieldsFrom fieldsIn keyOf typedOf rowLine classOf ofFields lineOf openOf fitsOf readyOf finishOf judgeLines judgeOf matchesOf wordsBelow linesWords textWords
-layouts-are = (refl, refl, refl, refl, refl)
-
-long-words : 1024 < length (textWords too-many-rows)
-unfolding on relays allOn allOff transitionWord markOf run same linesOf body cubeOf digits numberOf fieldsFrom fieldsIn keyOf typedOf rowLine classOf ofFields lineOf openOf fitsOf readyOf finishOf judgeLines judgeOf matchesOf wordsBelow linesWords textWords
-long-words = omega arith
+texts = record {
+  two-rows-words = refl;
+  one-dash-words = refl;
+  two-ways-words = refl;
+  many-words = omega arith;
+  two-rows-good = refl;
+  one-dash-good = refl;
+  two-ways-good = refl;
+  many-good = refl;
+  empty-bad = refl;
+}
 
 -- ---- the recordings
 
@@ -83,16 +96,18 @@ zero-next t (here e) = ap next e
 zero-next t (there (here e)) = ap next e
 zero-next t (there (there m)) = absurd (List·Memᴰ·not-nil m)
 
+-- two-rows is a recording of one relay
 pub two-rows-recorded : Recorded two-rows 1 (1024 ∷ 0 ∷ [])
-two-rows-recorded = record { short = omega arith; good = layouts-are .0; words = sym (words-are .0); listed = omega arith }
+two-rows-recorded = record { short = omega arith; good = texts .two-rows-good; words = sym (texts .two-rows-words); listed = omega arith }
 
+-- nothing stops learning of its words
 pub two-rows-learnable : Learnable 1 (1024 ∷ 0 ∷ [])
 two-rows-learnable = record {
   one-next = λ t u m k e. zero-next t m ∙ sym (zero-next u k);
   fits = λ ps rest e. one-relay-fits ps;
 }
 
--- the other text has the same rows
+-- in the words of one-dash they stand in another order, one of them twice
 turned : (w : ℕ) → Mem w (1024 ∷ 0 ∷ []) → Mem w (0 ∷ 1024 ∷ 0 ∷ [])
 turned w (here e) = there (here e)
 turned w (there (here e)) = here e
@@ -104,15 +119,18 @@ back w (there (here e)) = here e
 back w (there (there (here e))) = there (here e)
 back w (there (there (there m))) = absurd (List·Memᴰ·not-nil m)
 
+-- the two texts have the same rows
 pub same-rows : SameRows two-rows one-dash
 same-rows = record {
-  there = λ w m. subst (λ (z : List ℕ). Mem w z) (sym (words-are .1)) (turned w (subst (λ (z : List ℕ). Mem w z) (words-are .0) m));
-  back = λ w m. subst (λ (z : List ℕ). Mem w z) (sym (words-are .0)) (back w (subst (λ (z : List ℕ). Mem w z) (words-are .1) m));
+  there = λ w m. subst (λ (z : List ℕ). Mem w z) (sym (texts .one-dash-words)) (turned w (subst (λ (z : List ℕ). Mem w z) (texts .two-rows-words) m));
+  back = λ w m. subst (λ (z : List ℕ). Mem w z) (sym (texts .two-rows-words)) (back w (subst (λ (z : List ℕ). Mem w z) (texts .one-dash-words) m));
 }
 
+-- one-dash is a recording of one relay too
 pub one-dash-recorded : Recorded one-dash 1 (0 ∷ 1024 ∷ 0 ∷ [])
-one-dash-recorded = record { short = omega arith; good = layouts-are .1; words = sym (words-are .1); listed = omega arith }
+one-dash-recorded = record { short = omega arith; good = texts .one-dash-good; words = sym (texts .one-dash-words); listed = omega arith }
 
+-- nothing stops learning of its words either
 pub one-dash-learnable : Learnable 1 (0 ∷ 1024 ∷ 0 ∷ [])
 one-dash-learnable = record {
   one-next = λ t u m k e. zero-next t (back t m) ∙ sym (zero-next u (back u k));
@@ -128,6 +146,7 @@ words = replicate 1024 0
 abbrev output : List ℕ
 output = replicate 24576 0
 
+-- slices of zeros have the program's rooms
 pub rooms : Rooms words words words output
 rooms = record {
   list-room = length-replicate {A = ℕ} 1024 0;
@@ -147,20 +166,21 @@ runs : (t : List ℕ) → Runs t words words words output (cond (tooLong t) word
     (written output 0 (answer t)) (length (answer t))
 runs t = record { long = refl; bytes = refl; list-words = refl; book-words = refl; sheet-words = refl }
 
--- both recordings are answered with their sheet
+-- two-rows is answered with its sheet
 pub two-rows-printed : SheetPrinted two-rows output (written output 0 (answer two-rows)) (length (answer two-rows))
 two-rows-printed = sheet-printed rooms (runs two-rows) 1 _ two-rows-recorded two-rows-learnable
 
+-- and so is one-dash
 pub one-dash-printed : SheetPrinted one-dash output (written output 0 (answer one-dash)) (length (answer one-dash))
 one-dash-printed = sheet-printed rooms (runs one-dash) 1 _ one-dash-recorded one-dash-learnable
 
--- with the same bytes
+-- both with the same bytes
 pub one-text-printed : (length (answer two-rows) ≡ length (answer one-dash))
     × (take (length (answer two-rows)) (written output 0 (answer two-rows)) ≡ take (length (answer one-dash)) (written output 0 (answer one-dash)))
 one-text-printed = one-text two-rows-printed one-dash-printed one-size same-rows
   where
     one-size : two-rows-printed .n ≡ one-dash-printed .n
-    one-size = sized (sym (two-rows-printed .recorded .good) ∙ layouts-are .0) ∙ sym (sized (sym (one-dash-printed .recorded .good) ∙ layouts-are .1))
+    one-size = sized (sym (two-rows-printed .recorded .good) ∙ texts .two-rows-good) ∙ sym (sized (sym (one-dash-printed .recorded .good) ∙ texts .one-dash-good))
       where
         sized : {m : ℕ} → Good m ≡ Good 1 → m ≡ 1
         sized e = cc
@@ -181,19 +201,22 @@ two-ways-contradicted = record {
   other-next = λ e. omega (arith, e);
 }
 
--- one text for each code but 9
+-- 13: one byte too many
 pub long-refused : Refused (replicate 24577 0) 13 0
 long-refused = too-long (omega (arith, length-replicate {A = ℕ} 24577 0))
 
+-- 11: the empty text
 pub empty-refused : Refused [] 11 1
-empty-refused = faulty 1 (omega arith) (bad-iff-place Recording [] 1 .0 (layouts-are .4))
+empty-refused = faulty 1 (omega arith) (bad-iff-place Recording [] 1 .0 (texts .empty-bad))
 
+-- 8: one word more than the list has
 pub many-refused : Refused too-many-rows 8 0
-many-refused = too-many 10 (omega arith) (layouts-are .3) long-words
+many-refused = too-many 10 (omega arith) (texts .many-good) (texts .many-words)
 
+-- 7: K4 as a text
 pub two-ways-refused : Refused two-ways 7 1
-two-ways-refused = contradicted 1 1 (0 ∷ 1 ∷ []) (record { short = omega arith; good = layouts-are .2; words = sym (words-are .2); listed = omega arith }) two-ways-contradicted
+two-ways-refused = contradicted 1 1 (0 ∷ 1 ∷ []) (record { short = omega arith; good = texts .two-ways-good; words = sym (texts .two-ways-words); listed = omega arith }) two-ways-contradicted
 
--- and the line that is printed for the last
+-- `refused 7 at 1` is printed for it
 pub two-ways-printed : RefusalPrinted two-ways output (written output 0 (answer two-ways)) (length (answer two-ways))
 two-ways-printed = record { code = 7; place = 1; refused = two-ways-refused; prints = refusal-printed rooms (runs two-ways) 7 1 two-ways-refused }
