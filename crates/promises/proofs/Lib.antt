@@ -1,6 +1,6 @@
 pub mod Learning
+pub mod Instances
 pub mod TextToText
 pub mod OneText
-pub mod Instances
 pub mod Exactly
 pub mod OneResult
