@@ -1,7 +1,7 @@
 -- Demand 2 for a bench session, over the contracts of start and take and nothing else.
 use mathlib.Core.Path.{_≡_, refl, sym, ap, _∙_, subst}
 use mathlib.Core.Bool.{not}
-use mathlib.Core.List.{List, [], _∷_}
+use mathlib.Core.List.{List, [], _∷_, cons≢nil}
 use Prim.Native.Nat.{ℕ, zero, suc, _+_}
 use native.Mathlib.Omega.{arith}
 use lib.ListN.{length}
@@ -112,9 +112,6 @@ module _ (n : ℕ) (book sheet sheet′ : List ℕ) (r : Outcome) (h : Starts n 
         sheet-rest = rest-zero sheet′ (freshSheet n) (length sheet) n start-words count;
       })
 
-not-nil : {t : ℕ} {ts : List ℕ} → t ∷ ts ≡ [] → ⊥
-not-nil e = let z : _≡_ {A = ℕ} 0 1 = cc in omega arith
-
 going : {n : ℕ} {ts : List ℕ} {s : Session} {book sheet : List ℕ} → History n ts s book sheet → Going n ts s book sheet
 going {n = n} (started book sheet sheet′ r h z) = going-start n book sheet sheet′ r h z
 going {n = n} (took ts s s′ book sheet book′ sheet′ i j a g h z) = done (going g)
@@ -146,7 +143,7 @@ module _ {n : ℕ} {ts : List ℕ} {s : Session} {book sheet : List ℕ} (g : Hi
 
 -- once a transition is taken, nothing is asked of the caller
 pub session-taken : {n t : ℕ} {ts : List ℕ} {s : Session} {book sheet : List ℕ} → History n (t ∷ ts) s book sheet → Complete n (t ∷ ts) (tables s book sheet)
-session-taken g = session-complete g (λ e. absurd (not-nil e))
+session-taken g = session-complete g (λ e. absurd (cons≢nil e))
 
 -- such a session was started and then only used through take, so its numbers balance
 pub session-used : {n : ℕ} {ts : List ℕ} {s : Session} {book sheet : List ℕ} → History n ts s book sheet → Used s

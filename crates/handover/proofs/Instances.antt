@@ -1,7 +1,7 @@
 -- One instance of each premise of the theorems here: K2 and K3 divided, learned and joined as K11, a session that takes the same, and a state with its rule.
 use mathlib.Core.Path.{_≡_, refl, sym, ap, subst}
 use mathlib.Core.Logic.{_⊎_, inl, inr}
-use mathlib.Core.Bool.{true, false, false≢true}
+use mathlib.Core.Bool.{true, false≢true}
 use mathlib.Core.List.{List, [], _∷_, List·Memᴰ as Mem, List·Memᴰ·head as here, List·Memᴰ·tail as there, List·Memᴰ·cases-cons, List·Memᴰ·not-nil, List·Memᴰ·eq-of-singleton}
 use Prim.Native.Nat.{ℕ, zero, suc, _<_}
 use native.Mathlib.Omega.{arith}
@@ -57,28 +57,31 @@ one-taken = record { n = 1; «book_count» = 1; «sheet_count» = 1; struck = 1;
 abbrev both-taken : Session
 both-taken = record { n = 1; «book_count» = 2; «sheet_count» = 0; struck = 2; added = 1 }
 
--- what their definitions compute to
-contracts : Learned 1 (transitionWord 0 0 ∷ []) 1 1 (left .book) (left .sheet) (left .answer)
-    × Learned 1 (transitionWord 1 0 ∷ []) 1 1 (right .book) (right .sheet) (right .answer)
-    × Joined 1 (piece-of left) (piece-of right) (7 ∷ 7 ∷ 7 ∷ []) (7 ∷ []) (joined .answer) (joined .book) (joined .sheet)
-    × Learned 1 (transitionWord 0 0 ∷ transitionWord 1 0 ∷ []) 2 1 (whole .book) (whole .sheet) (whole .answer)
-    × Starts 1 (7 ∷ 7 ∷ []) (0 ∷ 0 ∷ []) (record { answer = plain 0 0 0 1; session = freshSession 1 })
-    × Takes (freshSession 1) (7 ∷ 7 ∷ []) (0 ∷ 0 ∷ []) 0 0 (0 ∷ 0 ∷ []) (1024 ∷ 0 ∷ []) (record { answer = done 1 1 1 1; session = one-taken })
-    × Takes one-taken (0 ∷ 0 ∷ []) (1024 ∷ 0 ∷ []) 0 0 (0 ∷ 0 ∷ []) (1024 ∷ 0 ∷ []) (record { answer = plain 1 0 1 1; session = one-taken })
-    × TakesLent one-taken (0 ∷ 0 ∷ []) (1024 ∷ 0 ∷ []) 1 0 both-taken (0 ∷ 1024 ∷ []) (0 ∷ 0 ∷ []) (done 2 0 1 0)
-    × TakesLent both-taken (0 ∷ 1024 ∷ []) (0 ∷ 0 ∷ []) 0 1 both-taken (0 ∷ 1024 ∷ []) (0 ∷ 0 ∷ []) (plain 7 0 2 0)
+-- each call satisfies its contract
+record Contracts : Type 0 where
+  k2 : Learned 1 (transitionWord 0 0 ∷ []) 1 1 (left .book) (left .sheet) (left .answer)
+  one-to-zero : Learned 1 (transitionWord 1 0 ∷ []) 1 1 (right .book) (right .sheet) (right .answer)
+  k11 : Joined 1 (piece-of left) (piece-of right) (7 ∷ 7 ∷ 7 ∷ []) (7 ∷ []) (joined .answer) (joined .book) (joined .sheet)
+  k3 : Learned 1 (transitionWord 0 0 ∷ transitionWord 1 0 ∷ []) 2 1 (whole .book) (whole .sheet) (whole .answer)
+  start : Starts 1 (7 ∷ 7 ∷ []) (0 ∷ 0 ∷ []) (record { answer = plain 0 0 0 1; session = freshSession 1 })
+  first : Takes (freshSession 1) (7 ∷ 7 ∷ []) (0 ∷ 0 ∷ []) 0 0 (0 ∷ 0 ∷ []) (1024 ∷ 0 ∷ []) (record { answer = done 1 1 1 1; session = one-taken })
+  told : Takes one-taken (0 ∷ 0 ∷ []) (1024 ∷ 0 ∷ []) 0 0 (0 ∷ 0 ∷ []) (1024 ∷ 0 ∷ []) (record { answer = plain 1 0 1 1; session = one-taken })
+  second : TakesLent one-taken (0 ∷ 0 ∷ []) (1024 ∷ 0 ∷ []) 1 0 both-taken (0 ∷ 1024 ∷ []) (0 ∷ 0 ∷ []) (done 2 0 1 0)
+  refused : TakesLent both-taken (0 ∷ 1024 ∷ []) (0 ∷ 0 ∷ []) 0 1 both-taken (0 ∷ 1024 ∷ []) (0 ∷ 0 ∷ []) (plain 7 0 2 0)
+
+contracts : Contracts
 unfolding has missing filled panelSize relays on allOn allOff bitsWhere ruleWord head mustOn mustOff validRule covers contains narrows rules transitionWord state next observed validTransition rests spared goodBook booked clash union least sheetWhere permits goodSheet freshSheet takeSheet joinSheet struckCount addedCount pullsIn applySheet freshCode freshAnswer freshWords lentCode bookingCode entryCode innerCode takeCode takeAnswer takeBook takeWords taken learnStep learnWords learnStart reproduced learnEnd learnRun runAnswer runBook runSheet exceeds piecesCode joinCode joinAnswer bookAfter sheetAfter startSession totalsFit sessionAfter sessionAnswer sessionTaken sessionBook sessionWords
-contracts = (
-  record { answer = refl; book-words = refl; sheet-words = refl },
-  record { answer = refl; book-words = refl; sheet-words = refl },
-  record { answer = refl; book-left = refl; sheet-left = refl },
-  record { answer = refl; book-words = refl; sheet-words = refl },
-  record { answer = refl; session = refl; words = refl },
-  record { answer = refl; session = refl; book-words = refl; sheet-words = refl },
-  record { answer = refl; session = refl; book-words = refl; sheet-words = refl },
-  record { answer = refl; session = refl; book-words = refl; sheet-words = refl },
-  record { answer = refl; session = refl; book-words = refl; sheet-words = refl },
-)
+contracts = record {
+  k2 = record { answer = refl; book-words = refl; sheet-words = refl };
+  one-to-zero = record { answer = refl; book-words = refl; sheet-words = refl };
+  k11 = record { answer = refl; book-left = refl; sheet-left = refl };
+  k3 = record { answer = refl; book-words = refl; sheet-words = refl };
+  start = record { answer = refl; session = refl; words = refl };
+  first = record { answer = refl; session = refl; book-words = refl; sheet-words = refl };
+  told = record { answer = refl; session = refl; book-words = refl; sheet-words = refl };
+  second = record { answer = refl; session = refl; book-words = refl; sheet-words = refl };
+  refused = record { answer = refl; session = refl; book-words = refl; sheet-words = refl };
+}
 
 -- ---- demands 2 and 3
 
@@ -100,11 +103,11 @@ divided = record {
 
 -- K2 as a learn that was not refused
 pub k2-learns : Learns 1 (transitionWord 0 0 ∷ []) left
-k2-learns = record { book-room = 1; sheet-room = 1; contract = contracts .0; learned = refl }
+k2-learns = record { book-room = 1; sheet-room = 1; contract = contracts .k2; learned = refl }
 
 -- K11 as a join that was not refused, of what K2 and the learn of "1 to 0" left
 pub k11-joins : Joins 1 (piece-of left) (piece-of right) joined
-k11-joins = record { book-before = 7 ∷ 7 ∷ 7 ∷ []; sheet-before = 7 ∷ []; contract = contracts .2; joined = refl }
+k11-joins = record { book-before = 7 ∷ 7 ∷ 7 ∷ []; sheet-before = 7 ∷ []; contract = contracts .k11; joined = refl }
 
 -- demand 3 of these: K11 and K3 agree, and both are complete
 pub k11-k3 : Same joined whole
@@ -112,19 +115,19 @@ pub k11-k3 : Same joined whole
     × Complete 1 (transitionWord 0 0 ∷ transitionWord 1 0 ∷ []) (piece-of whole)
 k11-k3 =
     pieces-whole 1 _ _ _ whole left right joined divided
-    (record { book-room = 2; sheet-room = 1; contract = contracts .3; learned = refl })
+    (record { book-room = 2; sheet-room = 1; contract = contracts .k3; learned = refl })
     k2-learns
-    (record { book-room = 1; sheet-room = 1; contract = contracts .1; learned = refl })
+    (record { book-room = 1; sheet-room = 1; contract = contracts .one-to-zero; learned = refl })
     k11-joins
 
 -- a session: started, "0 to 0" taken, told again (1), "1 to 0" taken with the session lent, "0 to 1" refused (7)
 pub history : History 1 (transitionWord 1 0 ∷ transitionWord 0 0 ∷ []) both-taken (0 ∷ 1024 ∷ []) (0 ∷ 0 ∷ [])
 history =
-    let k0 = started (7 ∷ 7 ∷ []) (7 ∷ 7 ∷ []) (0 ∷ 0 ∷ []) _ (contracts .4) refl in
-    let k1 = took [] (freshSession 1) one-taken (7 ∷ 7 ∷ []) (0 ∷ 0 ∷ []) (0 ∷ 0 ∷ []) (1024 ∷ 0 ∷ []) 0 0 (done 1 1 1 1) k0 (by-value _ _ _ (contracts .5)) refl in
-    let k2 = stayed (transitionWord 0 0 ∷ []) one-taken one-taken (0 ∷ 0 ∷ []) (1024 ∷ 0 ∷ []) (0 ∷ 0 ∷ []) (1024 ∷ 0 ∷ []) 0 0 (plain 1 0 1 1) k1 (by-value _ _ _ (contracts .6)) (λ e. omega (arith, e)) in
-    let k3 = took (transitionWord 0 0 ∷ []) one-taken both-taken (0 ∷ 0 ∷ []) (1024 ∷ 0 ∷ []) (0 ∷ 1024 ∷ []) (0 ∷ 0 ∷ []) 1 0 (done 2 0 1 0) k2 (lent _ _ _ _ (contracts .7)) refl in
-    stayed (transitionWord 1 0 ∷ transitionWord 0 0 ∷ []) both-taken both-taken (0 ∷ 1024 ∷ []) (0 ∷ 0 ∷ []) (0 ∷ 1024 ∷ []) (0 ∷ 0 ∷ []) 0 1 (plain 7 0 2 0) k3 (lent _ _ _ _ (contracts .8)) (λ e. omega (arith, e))
+    let begun = started (7 ∷ 7 ∷ []) (7 ∷ 7 ∷ []) (0 ∷ 0 ∷ []) _ (contracts .start) refl in
+    let one = took _ _ _ _ _ _ _ 0 0 _ begun (by-value _ _ _ (contracts .first)) refl in
+    let again = stayed _ _ _ _ _ _ _ 0 0 _ one (by-value _ _ _ (contracts .told)) (λ e. omega (arith, e)) in
+    let both = took _ _ _ _ _ _ _ 1 0 _ again (lent _ _ _ _ (contracts .second)) refl in
+    stayed _ _ _ _ _ _ _ 0 1 _ both (lent _ _ _ _ (contracts .refused)) (λ e. omega (arith, e))
 
 -- demand 2 of it
 pub history-complete : Complete 1 (transitionWord 1 0 ∷ transitionWord 0 0 ∷ []) (tables both-taken (0 ∷ 1024 ∷ []) (0 ∷ 0 ∷ []))

@@ -18,6 +18,7 @@ use Rattle.fields.specs.Fields.{fieldsFrom, fieldsIn}
 use Rattle.lines.specs.Lines.{keyOf, typedOf, rowLine, classOf, ofFields, lineOf}
 use Rattle.headers.specs.Layouts.{recording}
 use Rattle.headers.specs.Accepted.{Accepted}
+use Rattle.headers.specs.Places.{Place}
 use Rattle.headers.specs.Headers.{lacks, lacksNone, readyOf, rowFits, openOf, fitsOf, headerAllowed, endAllowed, rowAllowed, allowedAt, nextAt}
 use Rattle.headers.specs.Verdicts.{finishOf, judgeLines, judgeOf}
 use Rattle.headers.specs.declared.Verdict.the-variants.{Good, Bad}
@@ -56,21 +57,31 @@ two-ways = 46 ∷ 105 ∷ 32 ∷ 49 ∷ 10 ∷ 46 ∷ 111 ∷ 32 ∷ 49 ∷ 10 �
 abbrev too-many-rows : List ℕ
 too-many-rows = 46 ∷ 105 ∷ 32 ∷ 49 ∷ 48 ∷ 10 ∷ 46 ∷ 111 ∷ 32 ∷ 49 ∷ 48 ∷ 10 ∷ 45 ∷ 45 ∷ 45 ∷ 45 ∷ 45 ∷ 45 ∷ 45 ∷ 45 ∷ 45 ∷ 45 ∷ 32 ∷ 48 ∷ 48 ∷ 48 ∷ 48 ∷ 48 ∷ 48 ∷ 48 ∷ 48 ∷ 48 ∷ 48 ∷ 10 ∷ 48 ∷ 48 ∷ 48 ∷ 48 ∷ 48 ∷ 48 ∷ 48 ∷ 48 ∷ 48 ∷ 48 ∷ 32 ∷ 48 ∷ 48 ∷ 48 ∷ 48 ∷ 48 ∷ 48 ∷ 48 ∷ 48 ∷ 48 ∷ 48 ∷ 10 ∷ 46 ∷ 101 ∷ 10 ∷ []
 
--- their words, and what their layout is judged to be
-words-are : (textWords two-rows ≡ 1024 ∷ 0 ∷ []) × (textWords one-dash ≡ 0 ∷ 1024 ∷ 0 ∷ []) × (textWords two-ways ≡ 0 ∷ 1 ∷ [])
-unfolding on relays allOn allOff transitionWord markOf run same linesOf body cubeOf digits numberOf fieldsFrom fieldsIn keyOf typedOf rowLine classOf ofFields lineOf matchesOf wordsBelow linesWords textWords
-words-are = (refl, refl, refl)
+-- their words, and their layout; the empty text has no good one
+record Texts : Type 0 where
+  two-rows-words : textWords two-rows ≡ 1024 ∷ 0 ∷ []
+  one-dash-words : textWords one-dash ≡ 0 ∷ 1024 ∷ 0 ∷ []
+  two-ways-words : textWords two-ways ≡ 0 ∷ 1 ∷ []
+  many-words : 1024 < length (textWords too-many-rows)
+  two-rows-good : Accepted recording 1 two-rows
+  one-dash-good : Accepted recording 1 one-dash
+  two-ways-good : Accepted recording 1 two-ways
+  many-good : Accepted recording 10 too-many-rows
+  empty-bad : Place recording [] 1
 
-judged : (judgeOf recording two-rows ≡ Good 1) × (judgeOf recording one-dash ≡ Good 1) × (judgeOf recording two-ways ≡ Good 1) × (judgeOf recording too-many-rows ≡ Good 10) × (judgeOf recording [] ≡ Bad 1)
-unfolding markOf run same body linesOf fieldsFrom fieldsIn cubeOf digits numberOf keyOf typedOf rowLine classOf ofFields lineOf lacks lacksNone readyOf rowFits openOf fitsOf headerAllowed endAllowed rowAllowed allowedAt nextAt finishOf judgeLines judgeOf
-judged = (refl, refl, refl, refl, refl)
-
-accepted : (Accepted recording 1 two-rows) × (Accepted recording 1 one-dash) × (Accepted recording 1 two-ways) × (Accepted recording 10 too-many-rows)
-accepted = (good-iff-text recording two-rows 1 .0 (judged .0), good-iff-text recording one-dash 1 .0 (judged .1), good-iff-text recording two-ways 1 .0 (judged .2), good-iff-text recording too-many-rows 10 .0 (judged .3))
-
-long-words : 1024 < length (textWords too-many-rows)
-unfolding on relays allOn allOff transitionWord markOf run same linesOf body cubeOf digits numberOf fieldsFrom fieldsIn keyOf typedOf rowLine classOf ofFields lineOf matchesOf wordsBelow linesWords textWords
-long-words = omega arith
+texts : Texts
+unfolding on relays allOn allOff transitionWord markOf run same linesOf body cubeOf digits numberOf fieldsFrom fieldsIn keyOf typedOf rowLine classOf ofFields lineOf lacks lacksNone readyOf rowFits openOf fitsOf headerAllowed endAllowed rowAllowed allowedAt nextAt finishOf judgeLines judgeOf matchesOf wordsBelow linesWords textWords
+texts = record {
+  two-rows-words = refl;
+  one-dash-words = refl;
+  two-ways-words = refl;
+  many-words = omega arith;
+  two-rows-good = good-iff-text recording two-rows 1 .0 refl;
+  one-dash-good = good-iff-text recording one-dash 1 .0 refl;
+  two-ways-good = good-iff-text recording two-ways 1 .0 refl;
+  many-good = good-iff-text recording too-many-rows 10 .0 refl;
+  empty-bad = bad-iff-place recording [] 1 .0 refl;
+}
 
 -- ---- the recordings
 
@@ -90,15 +101,16 @@ zero-next t (here e) = ap next e
 zero-next t (there (here e)) = ap next e
 zero-next t (there (there m)) = absurd (List·Memᴰ·not-nil m)
 
+-- two-rows is a recording of one relay
 pub two-rows-recorded : Recorded two-rows 1 (1024 ∷ 0 ∷ [])
-two-rows-recorded = record { short = omega arith; good = accepted .0; words = sym (words-are .0); listed = omega arith }
+two-rows-recorded = record { short = omega arith; good = texts .two-rows-good; words = sym (texts .two-rows-words); listed = omega arith }
 
 pub two-rows-learnable : Learnable 1 (1024 ∷ 0 ∷ []) 1024 1024
 unfolding panelSize state next validTransition
 two-rows-learnable =
     words-learnable 1 refl (1024 ∷ 0 ∷ []) refl (omega arith) (1024 ∷ 0 ∷ []) [] refl (λ t u m k e. zero-next t m ∙ sym (zero-next u k)) (λ ps rest e. one-relay-fits ps)
 
--- the other text has the same rows
+-- in the words of one-dash they stand in another order, one of them twice
 turned : (w : ℕ) → Mem w (1024 ∷ 0 ∷ []) → Mem w (0 ∷ 1024 ∷ 0 ∷ [])
 turned w (here e) = there (here e)
 turned w (there (here e)) = here e
@@ -110,14 +122,16 @@ back w (there (here e)) = here e
 back w (there (there (here e))) = there (here e)
 back w (there (there (there m))) = absurd (List·Memᴰ·not-nil m)
 
+-- the two texts have the same rows
 pub same-rows : SameRows two-rows one-dash
 same-rows = record {
-  there = λ w m. subst (λ (z : List ℕ). Mem w z) (sym (words-are .1)) (turned w (subst (λ (z : List ℕ). Mem w z) (words-are .0) m));
-  back = λ w m. subst (λ (z : List ℕ). Mem w z) (sym (words-are .0)) (back w (subst (λ (z : List ℕ). Mem w z) (words-are .1) m));
+  there = λ w m. subst (λ (z : List ℕ). Mem w z) (sym (texts .one-dash-words)) (turned w (subst (λ (z : List ℕ). Mem w z) (texts .two-rows-words) m));
+  back = λ w m. subst (λ (z : List ℕ). Mem w z) (sym (texts .two-rows-words)) (back w (subst (λ (z : List ℕ). Mem w z) (texts .one-dash-words) m));
 }
 
+-- one-dash is a recording of one relay too
 pub one-dash-recorded : Recorded one-dash 1 (0 ∷ 1024 ∷ 0 ∷ [])
-one-dash-recorded = record { short = omega arith; good = accepted .1; words = sym (words-are .1); listed = omega arith }
+one-dash-recorded = record { short = omega arith; good = texts .one-dash-good; words = sym (texts .one-dash-words); listed = omega arith }
 
 pub one-dash-learnable : Learnable 1 (0 ∷ 1024 ∷ 0 ∷ []) 1024 1024
 unfolding panelSize state next validTransition
@@ -133,6 +147,7 @@ words = replicate 1024 0
 abbrev output : List ℕ
 output = replicate 24576 0
 
+-- slices of zeros have the program's rooms
 pub rooms : Rooms words words words output
 rooms = record {
   list-room = length-replicate {A = ℕ} 1024 0;
@@ -152,19 +167,20 @@ runs : (t : List ℕ) → Runs t words words words output (cond (tooLong t) word
     (written output 0 (answer t)) (length (answer t))
 runs t = record { long = refl; bytes = refl; list-words = refl; book-words = refl; sheet-words = refl }
 
--- both recordings are answered with their sheet
+-- two-rows is answered with its sheet
 pub two-rows-printed : SheetPrinted two-rows output (written output 0 (answer two-rows)) (length (answer two-rows))
 two-rows-printed = sheet-printed rooms (runs two-rows) 1 _ two-rows-recorded two-rows-learnable
 
+-- and so is one-dash
 pub one-dash-printed : SheetPrinted one-dash output (written output 0 (answer one-dash)) (length (answer one-dash))
 one-dash-printed = sheet-printed rooms (runs one-dash) 1 _ one-dash-recorded one-dash-learnable
 
--- with the same bytes
+-- both with the same bytes
 pub one-text-printed : (length (answer two-rows) ≡ length (answer one-dash))
     × (take (length (answer two-rows)) (written output 0 (answer two-rows)) ≡ take (length (answer one-dash)) (written output 0 (answer one-dash)))
 one-text-printed =
     one-text two-rows-printed one-dash-printed
-    (one-size recording two-rows (two-rows-printed .n) 1 (two-rows-printed .recorded .good) (accepted .0) ∙ sym (one-size recording one-dash (one-dash-printed .n) 1 (one-dash-printed .recorded .good) (accepted .1)))
+    (one-size recording two-rows (two-rows-printed .n) 1 (two-rows-printed .recorded .good) (texts .two-rows-good) ∙ sym (one-size recording one-dash (one-dash-printed .n) 1 (one-dash-printed .recorded .good) (texts .one-dash-good)))
     same-rows
 
 -- ---- refusals
@@ -177,19 +193,22 @@ two-ways-contradicted =
     (words-learnable 1 refl (0 ∷ 1 ∷ []) refl (omega arith) (0 ∷ []) (1 ∷ []) refl (λ t u m k e. ap next (List·Memᴰ·eq-of-singleton m ∙ sym (List·Memᴰ·eq-of-singleton k))) (λ ps rest e. one-relay-fits ps))
     (stopped 0 refl (here refl) refl (λ e. omega (arith, e)))
 
--- one text for each code but 9
+-- 13: one byte too many
 pub long-refused : Refused (replicate 24577 0) 13 0
 long-refused = too-long (omega (arith, length-replicate {A = ℕ} 24577 0))
 
+-- 11: the empty text
 pub empty-refused : Refused [] 11 1
-empty-refused = faulty 1 (omega arith) (bad-iff-place recording [] 1 .0 (judged .4))
+empty-refused = faulty 1 (omega arith) (texts .empty-bad)
 
+-- 8: one word more than the list has
 pub many-refused : Refused too-many-rows 8 0
-many-refused = too-many 10 (omega arith) (accepted .3) long-words
+many-refused = too-many 10 (omega arith) (texts .many-good) (texts .many-words)
 
+-- 7: K4 as a text
 pub two-ways-refused : Refused two-ways 7 1
-two-ways-refused = contradicted 1 1 (0 ∷ 1 ∷ []) (record { short = omega arith; good = accepted .2; words = sym (words-are .2); listed = omega arith }) two-ways-contradicted
+two-ways-refused = contradicted 1 1 (0 ∷ 1 ∷ []) (record { short = omega arith; good = texts .two-ways-good; words = sym (texts .two-ways-words); listed = omega arith }) two-ways-contradicted
 
--- and the line that is printed for the last
+-- `refused 7 at 1` is printed for it
 pub two-ways-printed : RefusalPrinted two-ways output (written output 0 (answer two-ways)) (length (answer two-ways))
 two-ways-printed = record { code = 7; place = 1; refused = two-ways-refused; prints = refusal-printed rooms (runs two-ways) 7 1 two-ways-refused }
