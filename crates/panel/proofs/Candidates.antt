@@ -6,12 +6,12 @@ use Prim.Native.Nat.{ℕ, _+_, _*_, _^_, _≤_, _<_}
 use native.Mathlib.Omega.{arith}
 use lib.Pow.{pow-pos}
 use native.Mathlib.Decide.{ℕ-discrete}
-use Rattle.panel.specs.Masks.{on}
-use Rattle.panel.specs.Rules.{ruleWord, head, mustOn, mustOff, covers, narrows}
+use Rattle.panel.specs.Masks.{on, within, apart}
+use Rattle.panel.specs.Rules.{ruleWord, head, mustOn, mustOff, covers, narrows, Rule}
 use Rattle.panel.specs.Contacts.{free, contact, candidate}
 use Rattle.table.proofs.Basics.{and-l, and-r, and-i, not-e, not-i, either}
-use Rattle.panel.proofs.Masks.{within, apart, on-bit, bit-on, off-bit, within-on, apart-comm, apart-on, on-within, on-apart, not-within, not-apart, add-on, add-other, add-below}
-use Rattle.panel.proofs.Words.{Rule, Narrows, Covers, narrows-e, narrows-i, covers-e, covers-i, ruleWord-is, word-fields, head-word, mustOn-word, mustOff-word, mask-small}
+use Rattle.panel.proofs.Masks.{on-bit, bit-on, off-bit, within-on, apart-comm, apart-on, on-within, on-apart, not-within, not-apart, add-on, add-other, add-below}
+use Rattle.panel.proofs.Words.{Narrows, Covers, narrows-e, narrows-i, covers-e, covers-i, ruleWord-is, word-fields, head-word, mustOn-word, mustOff-word, mask-small}
 
 -- ---- one more bit in a mask
 

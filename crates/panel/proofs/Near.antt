@@ -9,12 +9,12 @@ use lib.Bits.{bitAnd, bitOr, and-step, and-self, and-le-l, or-lt}
 use lib.Dec.{eqb}
 use lib.Pow.{pow-pos, pow-add, field, mod-mod-pow, shr-shr}
 use borrow.Author.Tests.{eqb-true, eq-eqb}
-use Rattle.panel.specs.Masks.{on, bitsWhere}
-use Rattle.panel.specs.Rules.{head, mustOn, mustOff, validRule, covers, narrows}
+use Rattle.panel.specs.Masks.{on, bitsWhere, within}
+use Rattle.panel.specs.Rules.{head, mustOn, mustOff, validRule, covers, narrows, Rule}
 use Rattle.panel.specs.Contacts.{free, contact, candidate, beyond, lone, near, placeBy, contactPlace}
 use Rattle.table.proofs.Basics.{and-l, and-r, and-i, not-e, not-i, either, same-test, passes, false-test}
-use Rattle.panel.proofs.Masks.{within, bits-lt, bits-on, same-bits, on-complement, on-or, on-less, bit, bit-zero, bit-suc, on-and, on-bit, bit-on, off-zero, within-on, apart-on, on-within, within-eq, eq-within, within-antisym}
-use Rattle.panel.proofs.Words.{Rule, rule-e, mustOn-small, mustOff-small, Covers, narrows-e, covers-e, narrows-word, word-narrows, narrows-covers}
+use Rattle.panel.proofs.Masks.{bits-lt, bits-on, same-bits, on-complement, on-or, on-less, bit, bit-zero, bit-suc, on-and, on-bit, bit-on, off-zero, within-on, apart-on, on-within, within-eq, eq-within, within-antisym}
+use Rattle.panel.proofs.Words.{rule-e, mustOn-small, mustOff-small, Covers, narrows-e, covers-e, narrows-word, word-narrows, narrows-covers}
 use Rattle.panel.proofs.Candidates.{add-keeps, add-new, add-from, added, free-mustOn, free-mustOff}
 
 -- ---- one bit alone

@@ -10,11 +10,11 @@ use lib.Pow.{pow-mono}
 use lib.Dec.{eqb, ltb}
 use borrow.Author.Tests.{eqb-true, eq-eqb, ltb-true, lt-ltb}
 use Rattle.table.specs.Lists.{consIf, each, increasing}
-use Rattle.panel.specs.Masks.{allOff}
-use Rattle.panel.specs.Rules.{contains, ruleWord, head, mustOn, mustOff, validRule, covers, narrows, rules}
+use Rattle.panel.specs.Masks.{allOff, within, apart}
+use Rattle.panel.specs.Rules.{contains, ruleWord, head, mustOn, mustOff, validRule, Rule, covers, narrows, rules}
 use Rattle.table.proofs.Basics.{and-l, and-r, and-i, each-e, each-i}
 use Rattle.table.proofs.Increasing.{each-increasing}
-use Rattle.panel.proofs.Masks.{within, apart, within-refl, within-trans, within-antisym, within-le, within-apart, allOn-within, allOff-apart, within-eq, eq-within}
+use Rattle.panel.proofs.Masks.{within-refl, within-trans, within-antisym, within-le, within-apart, allOn-within, allOff-apart, within-eq, eq-within}
 
 -- ---- the fields of a word
 
@@ -53,12 +53,6 @@ pub same-word : (w r : ℕ) → head w ≡ head r → mustOn w ≡ mustOn r → 
 same-word w r a b c = cc (word-fields w, word-fields r)
 
 -- ---- what the tests say
-
-pub record Rule (n w : ℕ) : Type 0 where
-  pub head-lt : head w < n
-  pub mustOn-lt : mustOn w < 2 ^ n
-  pub mustOff-lt : mustOff w < 2 ^ n
-  pub disjoint : apart (mustOn w) (mustOff w) ≡ true
 
 pub rule-e : (n w : ℕ) → validRule n w ≡ true → Rule n w
 unfolding validRule

@@ -7,11 +7,11 @@ use native.Mathlib.Nat.{pow-suc, lt-of-le-of-lt}
 use native.Mathlib.Omega.{arith}
 use lib.Pow.{pow-pos}
 use Rattle.table.proofs.Basics.{either, false-test}
-use Rattle.panel.specs.Masks.{on}
-use Rattle.panel.specs.Rules.{ruleWord, head, mustOn, mustOff, narrows}
+use Rattle.panel.specs.Masks.{on, within, apart}
+use Rattle.panel.specs.Rules.{ruleWord, head, mustOn, mustOff, narrows, Rule}
 use Rattle.panel.specs.Contacts.{free, contact, candidate}
-use Rattle.panel.proofs.Masks.{within, apart, on-le, sub-off, within-on, within-apart, apart-comm, apart-on, on-within, not-within}
-use Rattle.panel.proofs.Words.{Rule, Narrows, narrows-e, narrows-i, ruleWord-is, word-fields, head-word, mustOn-word, mustOff-word, mask-small}
+use Rattle.panel.proofs.Masks.{on-le, sub-off, within-on, within-apart, apart-comm, apart-on, on-within, not-within}
+use Rattle.panel.proofs.Words.{Narrows, narrows-e, narrows-i, ruleWord-is, word-fields, head-word, mustOn-word, mustOff-word, mask-small}
 use Rattle.panel.proofs.Candidates.{add-keeps, free-mustOn, free-mustOff, free-i, added}
 use Rattle.spans.specs.Fewer.{pickWord, without}
 

@@ -5,9 +5,10 @@ use Prim.Native.Nat.{ℕ, _+_, _-_, _*_, _/_, _%_, _^_, _≤_, _<_}
 use native.Mathlib.Omega.{arith}
 use lib.Bits.{bitAnd, and-zero-r, and-le-r}
 use lib.Pow.{pow-pos}
-use Rattle.panel.specs.Rules.{ruleWord, head, mustOn, mustOff}
-use Rattle.panel.proofs.Masks.{apart-eq, eq-apart, apart-comm, apart}
-use Rattle.panel.proofs.Words.{Rule, ruleWord-is, word-fields, head-word, mustOn-word, mustOff-word, mustOn-small, mustOff-small, mask-small}
+use Rattle.panel.specs.Rules.{ruleWord, head, mustOn, mustOff, Rule}
+use Rattle.panel.specs.Masks.{apart}
+use Rattle.panel.proofs.Masks.{apart-eq, eq-apart, apart-comm}
+use Rattle.panel.proofs.Words.{ruleWord-is, word-fields, head-word, mustOn-word, mustOff-word, mustOn-small, mustOff-small, mask-small}
 use Rattle.spans.specs.Steps.{Spot, Next}
 use Rattle.spans.proofs.NextMask.{nextOff, nextOff-is, follows, nextOff-lt, nextOff-apart, sum-lt}
 

@@ -8,8 +8,7 @@ use lib.ListN.{length, length-append}
 use Rattle.table.specs.Lists.{consIf, has}
 use Rattle.table.proofs.Basics.{same-test}
 use Rattle.table.proofs.Counting.{has-e, has-i}
-use Rattle.panel.specs.Rules.{head}
-use Rattle.panel.proofs.Words.{Rule}
+use Rattle.panel.specs.Rules.{head, Rule}
 use Rattle.prime.specs.Sheets.{least, sheetWhere}
 use Rattle.prime.proofs.Least.{least-e, least-i, member-e, member-i, sheet-increasing}
 use Rattle.spans.specs.Parts.{oneIf, between, over, putIf, ofHead}
