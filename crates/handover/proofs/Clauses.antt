@@ -7,10 +7,10 @@ use Prim.Native.Nat.{ℕ, _^_, _≤_, _<_}
 use lib.Dec.{eqb}
 use borrow.Author.Tests.{eqb-true, eq-eqb}
 use Rattle.table.proofs.Basics.{and-l, and-r, and-i, or-e, or-l, or-r}
-use Rattle.panel.specs.Masks.{on, relays, bitsWhere}
-use Rattle.panel.specs.Rules.{ruleWord, head, mustOn, mustOff, covers, contains, narrows}
-use Rattle.panel.proofs.Masks.{within, apart, within-on, apart-on, on-within, on-apart, on-below, relays-i, bits-lt, bits-on}
-use Rattle.panel.proofs.Words.{Rule, covers-e, covers-i, contains-masks, mustOn-small, mustOff-small, mask-small, head-word, mustOn-word, mustOff-word}
+use Rattle.panel.specs.Masks.{on, relays, bitsWhere, within, apart}
+use Rattle.panel.specs.Rules.{ruleWord, head, mustOn, mustOff, covers, contains, narrows, Rule}
+use Rattle.panel.proofs.Masks.{within-on, apart-on, on-within, on-apart, on-below, relays-i, bits-lt, bits-on}
+use Rattle.panel.proofs.Words.{covers-e, covers-i, contains-masks, mustOn-small, mustOff-small, mask-small, head-word, mustOn-word, mustOff-word}
 use Rattle.handover.specs.Document000.{Literal, pos, neg, atomOf, Clause, Met, Proper, Subsumes, SameRule, litIf, literals, ruleOf}
 
 -- ---- the literals of a rule word

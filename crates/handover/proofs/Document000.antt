@@ -6,9 +6,9 @@ use Prim.Native.Nat.{ℕ, _≤_, _<_}
 use native.Mathlib.Nat.{lt-of-lt-of-le}
 use Rattle.table.proofs.Basics.{passes}
 use Rattle.panel.specs.Masks.{on}
-use Rattle.panel.specs.Rules.{head}
+use Rattle.panel.specs.Rules.{head, Rule}
 use Rattle.panel.specs.Transitions.{state, next}
-use Rattle.panel.proofs.Words.{Rule, rule-e, rule-i, narrows-antisym}
+use Rattle.panel.proofs.Words.{rule-e, rule-i, narrows-antisym}
 use Rattle.prime.specs.Sheets.{pullsIn, applySheet}
 use Rattle.prime.proofs.Laws.{spared-e, spared-i, consistent-e, consistent-i}
 use Rattle.prime.proofs.Apply.{consistent-covers, covers-consistent, pullsIn-e, pullsIn-i, apply-on, rests-e, rests-i, reproduces}

@@ -4,9 +4,8 @@ use mathlib.Core.Logic.{_⊎_, inl, inr}
 use mathlib.Core.Bool.{true}
 use mathlib.Core.List.{List·Memᴰ as Mem}
 use Prim.Native.Nat.{ℕ, _≤_, _<_}
-use Rattle.panel.specs.Rules.{covers}
+use Rattle.panel.specs.Rules.{covers, Rule}
 use Rattle.panel.specs.Contacts.{free, candidate}
-use Rattle.panel.proofs.Words.{Rule}
 use Rattle.panel.proofs.Candidates.{Added, added, free-mustOn, free-mustOff, free-i}
 use Rattle.handover.specs.Document000.{Literal, pos, neg, atomOf, negated, Clause, True, Subsumes, SameRule, Inferred, Specializes, ruleOf}
 use Rattle.handover.proofs.Clauses.{pos-e, neg-e, pos-i, neg-i, covers-met}

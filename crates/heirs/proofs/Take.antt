@@ -4,12 +4,12 @@ use mathlib.Core.Logic.{_⊎_, inl, inr}
 use mathlib.Core.Bool.{Bool, true, not, _&&_}
 use mathlib.Core.List.{List, List·Memᴰ as Mem}
 use Prim.Native.Nat.{ℕ, _≤_, _<_}
-use Rattle.panel.specs.Rules.{head, covers, narrows}
+use Rattle.panel.specs.Rules.{head, covers, narrows, Rule}
 use Rattle.panel.specs.Transitions.{state, rests, spared}
 use Rattle.panel.specs.Contacts.{free, candidate}
 use Rattle.prime.specs.Sheets.{sheetWhere, permits, takeSheet}
 use Rattle.table.proofs.Basics.{and-l, and-r, and-i, either}
-use Rattle.panel.proofs.Words.{Rule, narrows-e, narrows-refl, narrows-trans, narrows-antisym}
+use Rattle.panel.proofs.Words.{narrows-e, narrows-refl, narrows-trans, narrows-antisym}
 use Rattle.panel.proofs.Candidates.{added, candidate-narrows, candidate-misses, candidate-found, candidate-order}
 use Rattle.prime.proofs.Least.{Good, Least, permits-e, permits-i, member-e, member-i}
 use Rattle.prime.proofs.Laws.{spared-e, spared-i, hit-e}

@@ -6,12 +6,12 @@ use Prim.Native.Nat.{ℕ, _+_, _*_, _^_, _≤_, _<_}
 use native.Mathlib.Omega.{arith}
 use lib.Pow.{pow-pos}
 use native.Mathlib.Decide.{ℕ-discrete}
-use Rattle.panel.specs.Masks.{on}
-use Rattle.panel.specs.Rules.{ruleWord, head, mustOn, mustOff, covers, narrows}
+use Rattle.panel.specs.Masks.{on, within, apart}
+use Rattle.panel.specs.Rules.{ruleWord, head, mustOn, mustOff, covers, narrows, Rule}
 use Rattle.panel.specs.Contacts.{free, contact, candidate}
 use Rattle.table.proofs.Basics.{and-l, and-r, and-i, not-e, not-i, either}
-use Rattle.panel.proofs.Masks.{within, apart, on-bit, bit-on, off-bit, within-on, apart-comm, apart-on, on-within, on-apart, not-within, not-apart, add-on, add-other, add-below}
-use Rattle.panel.proofs.Words.{Rule, Narrows, Covers, narrows-e, narrows-i, covers-e, covers-i, ruleWord-is, word-fields, head-word, mustOn-word, mustOff-word, mask-small}
+use Rattle.panel.proofs.Masks.{on-bit, bit-on, off-bit, within-on, apart-comm, apart-on, on-within, on-apart, not-within, not-apart, add-on, add-other, add-below}
+use Rattle.panel.proofs.Words.{Narrows, Covers, narrows-e, narrows-i, covers-e, covers-i, ruleWord-is, word-fields, rule-fields, mask-small}
 
 -- ---- one more bit in a mask
 
@@ -87,23 +87,21 @@ module _ (n : ℕ) (small : n ≤ 10) (b v : ℕ) (rb : Rule n b) (lv : v < n) (
       let is : c ≡ ruleWord (head b) (mustOn b) (mustOff b + 2 ^ v) = e ∙ off-word in
       let ps = mask-small n small (rb .mustOn-lt) in
       let ns = mask-small n small mustOff-more in
-      let eh : head c ≡ head b = ap head is ∙ head-word (head b) (mustOn b) (mustOff b + 2 ^ v) ps ns in
-      let ep : mustOn c ≡ mustOn b = ap mustOn is ∙ mustOn-word (head b) (mustOn b) (mustOff b + 2 ^ v) ps ns in
-      let en : mustOff c ≡ mustOff b + 2 ^ v = ap mustOff is ∙ mustOff-word (head b) (mustOn b) (mustOff b + 2 ^ v) ps ns in
+      let f = rule-fields (head b) (mustOn b) (mustOff b + 2 ^ v) ps ns c is in
       record {
         is-rule = record {
-          head-lt = rw eh (rb .head-lt);
-          mustOn-lt = rw ep (rb .mustOn-lt);
-          mustOff-lt = rw en mustOff-more;
-          disjoint = ap₂ apart ep en ∙ add-apart n (mustOn b) (mustOff b) v (rb .mustOn-lt) (rb .disjoint) (free-mustOn v b fr) (free-mustOff v b fr);
+          head-lt = rw (f .0) (rb .head-lt);
+          mustOn-lt = rw (f .1) (rb .mustOn-lt);
+          mustOff-lt = rw (f .2) mustOff-more;
+          disjoint = ap₂ apart (f .1) (f .2) ∙ add-apart n (mustOn b) (mustOff b) v (rb .mustOn-lt) (rb .disjoint) (free-mustOn v b fr) (free-mustOff v b fr);
         };
-        one-head = eh;
-        mustOn-keep = λ u p. rw ep p;
-        mustOff-keep = λ u p. rw en (add-keeps (mustOff b) v u (free-mustOff v b fr) p);
-        mustOn-from = λ u p. inl (rw ep at p);
-        mustOff-from = λ u p. tag o (add-from (mustOff b) v u (free-mustOff v b fr) (rw en at p));
+        one-head = f .0;
+        mustOn-keep = λ u p. rw (f .1) p;
+        mustOff-keep = λ u p. rw (f .2) (add-keeps (mustOff b) v u (free-mustOff v b fr) p);
+        mustOn-from = λ u p. inl (rw (f .1) at p);
+        mustOff-from = λ u p. tag o (add-from (mustOff b) v u (free-mustOff v b fr) (rw (f .2) at p));
         mustOn-new = λ d. absurd (d o);
-        mustOff-new = λ d. rw en (add-new (mustOff b) v (free-mustOff v b fr));
+        mustOff-new = λ d. rw (f .2) (add-new (mustOff b) v (free-mustOff v b fr));
       }
 
   added-on : (i c : ℕ) → (on v i ≡ true → ⊥) → c ≡ b + 2 ^ v * 1024 → Added n b v i c
@@ -111,25 +109,23 @@ module _ (n : ℕ) (small : n ≤ 10) (b v : ℕ) (rb : Rule n b) (lv : v < n) (
       let is : c ≡ ruleWord (head b) (mustOn b + 2 ^ v) (mustOff b) = e ∙ on-word in
       let ps = mask-small n small mustOn-more in
       let ns = mask-small n small (rb .mustOff-lt) in
-      let eh : head c ≡ head b = ap head is ∙ head-word (head b) (mustOn b + 2 ^ v) (mustOff b) ps ns in
-      let ep : mustOn c ≡ mustOn b + 2 ^ v = ap mustOn is ∙ mustOn-word (head b) (mustOn b + 2 ^ v) (mustOff b) ps ns in
-      let en : mustOff c ≡ mustOff b = ap mustOff is ∙ mustOff-word (head b) (mustOn b + 2 ^ v) (mustOff b) ps ns in
+      let f = rule-fields (head b) (mustOn b + 2 ^ v) (mustOff b) ps ns c is in
       record {
         is-rule = record {
-          head-lt = rw eh (rb .head-lt);
-          mustOn-lt = rw ep mustOn-more;
-          mustOff-lt = rw en (rb .mustOff-lt);
+          head-lt = rw (f .0) (rb .head-lt);
+          mustOn-lt = rw (f .1) mustOn-more;
+          mustOff-lt = rw (f .2) (rb .mustOff-lt);
           disjoint =
-              ap₂ apart ep en
+              ap₂ apart (f .1) (f .2)
               ∙ apart-comm (mustOff b) (mustOn b + 2 ^ v)
               (add-apart n (mustOff b) (mustOn b) v (rb .mustOff-lt) (apart-comm (mustOn b) (mustOff b) (rb .disjoint)) (free-mustOff v b fr) (free-mustOn v b fr));
         };
-        one-head = eh;
-        mustOn-keep = λ u p. rw ep (add-keeps (mustOn b) v u (free-mustOn v b fr) p);
-        mustOff-keep = λ u p. rw en p;
-        mustOn-from = λ u p. tag o (add-from (mustOn b) v u (free-mustOn v b fr) (rw ep at p));
-        mustOff-from = λ u p. inl (rw en at p);
-        mustOn-new = λ d. rw ep (add-new (mustOn b) v (free-mustOn v b fr));
+        one-head = f .0;
+        mustOn-keep = λ u p. rw (f .1) (add-keeps (mustOn b) v u (free-mustOn v b fr) p);
+        mustOff-keep = λ u p. rw (f .2) p;
+        mustOn-from = λ u p. tag o (add-from (mustOn b) v u (free-mustOn v b fr) (rw (f .1) at p));
+        mustOff-from = λ u p. inl (rw (f .2) at p);
+        mustOn-new = λ d. rw (f .1) (add-new (mustOn b) v (free-mustOn v b fr));
         mustOff-new = λ d. absurd (o d);
       }
 

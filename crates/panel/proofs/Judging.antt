@@ -7,11 +7,11 @@ use lib.Bits.{bitAnd}
 use lib.Dec.{eqb, ltb}
 use borrow.Author.Tests.{eq-eqb, ne-eqb, lt-ltb, le-ltb}
 use Rattle.table.proofs.Basics.{false-test}
-use Rattle.panel.specs.Masks.{on, allOff}
+use Rattle.panel.specs.Masks.{on, allOff, within, apart}
 use Rattle.panel.specs.Rules.{head, mustOn, mustOff, validRule, covers, contains}
 use Rattle.panel.specs.Transitions.{state, next, observed, validTransition, rests, spared}
 use Rattle.panel.specs.Contacts.{free, contact, candidate}
-use Rattle.panel.proofs.Masks.{within, apart, on-below, allOff-apart}
+use Rattle.panel.proofs.Masks.{on-below, allOff-apart}
 use Rattle.panel.proofs.Words.{mustOn-small, contains-masks, covers-masks}
 
 -- ---- `if a { b } else { false }` and `a && b`

@@ -1,4 +1,5 @@
 pub mod Masks
+pub mod Codec
 pub mod Words
 pub mod Candidates
 pub mod Judging

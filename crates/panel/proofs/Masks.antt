@@ -11,18 +11,8 @@ use lib.Dec.{eqb}
 use borrow.Author.Tests.{eqb-true, eq-eqb}
 use mathlib.Core.List.{[], _∷_, List·Memᴰ as Mem, List·Memᴰ·head as here}
 use lib.Pow.{pow-pos}
-use Rattle.panel.specs.Masks.{bitIf, bitsWhere, on, relays, allOn, allOff}
+use Rattle.panel.specs.Masks.{bitIf, bitsWhere, on, relays, allOn, allOff, within, apart}
 use Rattle.table.proofs.Basics.{either, and-l, and-r, and-i, or-e, or-l, or-r, not-e, not-i, passes, each-i, all-e, all-i, same-test, false-test}
-
--- ---- the tests as code makes them
-
--- every bit of a is on in b, by one `&`
-unfoldable pub within : ℕ → ℕ → Bool
-within a b = eqb (bitAnd a b) a
-
--- every bit of a is off in b, by one `&`
-unfoldable pub apart : ℕ → ℕ → Bool
-apart a b = eqb (bitAnd a b) 0
 
 -- ---- one bit
 

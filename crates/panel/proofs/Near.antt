@@ -7,14 +7,15 @@ use native.Mathlib.Nat.{pow-suc}
 use native.Mathlib.Omega.{arith}
 use lib.Bits.{bitAnd, bitOr, and-step, and-self, and-le-l, or-lt}
 use lib.Dec.{eqb}
-use lib.Pow.{pow-pos, pow-add, field, mod-mod-pow, shr-shr}
+use lib.Pow.{pow-pos, pow-add}
 use borrow.Author.Tests.{eqb-true, eq-eqb}
-use Rattle.panel.specs.Masks.{on, bitsWhere}
-use Rattle.panel.specs.Rules.{head, mustOn, mustOff, validRule, covers, narrows}
+use Rattle.panel.specs.Masks.{on, bitsWhere, within}
+use Rattle.panel.specs.Rules.{head, mustOn, mustOff, validRule, covers, narrows, Rule}
 use Rattle.panel.specs.Contacts.{free, contact, candidate, beyond, lone, near, placeBy, contactPlace}
 use Rattle.table.proofs.Basics.{and-l, and-r, and-i, not-e, not-i, either, same-test, passes, false-test}
-use Rattle.panel.proofs.Masks.{within, bits-lt, bits-on, same-bits, on-complement, on-or, on-less, bit, bit-zero, bit-suc, on-and, on-bit, bit-on, off-zero, within-on, apart-on, on-within, within-eq, eq-within, within-antisym}
-use Rattle.panel.proofs.Words.{Rule, rule-e, mustOn-small, mustOff-small, Covers, narrows-e, covers-e, narrows-word, word-narrows, narrows-covers}
+use Rattle.panel.proofs.Masks.{bits-lt, bits-on, same-bits, on-complement, on-or, on-less, bit, bit-zero, bit-suc, on-and, on-bit, bit-on, off-zero, within-on, apart-on, on-within, within-eq, eq-within, within-antisym}
+use Rattle.panel.proofs.Codec.{low-on, middle-on}
+use Rattle.panel.proofs.Words.{rule-e, mustOn-small, mustOff-small, Covers, narrows-e, covers-e, narrows-word, word-narrows, narrows-covers}
 use Rattle.panel.proofs.Candidates.{add-keeps, add-new, add-from, added, free-mustOn, free-mustOff}
 
 -- ---- one bit alone
@@ -167,24 +168,14 @@ module _ (p b c r : ℕ) (off : on p b ≡ true → ⊥) (is : c ≡ b + 2 ^ p) 
       in-b u q (inl s) = s
       in-b u q (inr s) = absurd (f (ap (λ (k : ℕ). on k r) (sym s) ∙ q))
 
-low-bit : (v w : ℕ) → v < 10 → on v (w % 1024) ≡ on v w
-unfolding on
-low-bit v w l =
-    let e : (9 - v) + 1 + v ≡ 10 = omega arith in
-    ap (λ (k : ℕ). eqb k 1)
-    (ap (λ (k : ℕ). w % 2 ^ k / 2 ^ v % 2) (sym e) ∙ ap (λ (k : ℕ). k % 2) (field w (9 - v + 1) v) ∙ mod-mod-pow (w / 2 ^ v) (9 - v) 1)
-
+-- the bits of the masks are bits of the word
 pub mustOff-bit : (v w : ℕ) → v < 10 → on v (mustOff w) ≡ on v w
 unfolding mustOff
-mustOff-bit v w l = low-bit v w l
-
-high-bit : (v w : ℕ) → on v (w / 1024) ≡ on (v + 10) w
-unfolding on
-high-bit v w = ap (λ (k : ℕ). eqb (k % 2) 1) (shr-shr w 10 v ∙ ap (λ (k : ℕ). w / 2 ^ k) (omega arith))
+mustOff-bit v w l = low-on v w l
 
 pub mustOn-bit : (v w : ℕ) → v < 10 → on v (mustOn w) ≡ on (v + 10) w
 unfolding mustOn
-mustOn-bit v w l = low-bit v (w / 1024) l ∙ high-bit v w
+mustOn-bit v w l = middle-on v w l
 
 -- ---- the contact of a candidate
 

@@ -5,16 +5,17 @@ use mathlib.Core.List.{[], List·Memᴰ as Mem, List·Memᴰ·head as here, List
 use Prim.Native.Nat.{ℕ, _+_, _*_, _^_, _≤_, _<_}
 use native.Mathlib.Nat.{lt-of-lt-of-le}
 use native.Mathlib.Omega.{arith}
-use lib.Bits.{bitAnd, and-block, and-lt, and-self}
+use lib.Bits.{bitAnd, and-lt, and-self}
 use lib.Pow.{pow-mono}
 use lib.Dec.{eqb, ltb}
 use borrow.Author.Tests.{eqb-true, eq-eqb, ltb-true, lt-ltb}
 use Rattle.table.specs.Lists.{consIf, each, increasing}
-use Rattle.panel.specs.Masks.{allOff}
-use Rattle.panel.specs.Rules.{contains, ruleWord, head, mustOn, mustOff, validRule, covers, narrows, rules}
+use Rattle.panel.specs.Masks.{allOff, within, apart}
+use Rattle.panel.specs.Rules.{contains, ruleWord, head, mustOn, mustOff, validRule, Rule, covers, narrows, rules}
 use Rattle.table.proofs.Basics.{and-l, and-r, and-i, each-e, each-i}
 use Rattle.table.proofs.Increasing.{each-increasing}
-use Rattle.panel.proofs.Masks.{within, apart, within-refl, within-trans, within-antisym, within-le, within-apart, allOn-within, allOff-apart, within-eq, eq-within}
+use Rattle.panel.proofs.Codec as codec
+use Rattle.panel.proofs.Masks.{within-refl, within-trans, within-antisym, within-le, within-apart, allOn-within, allOff-apart, within-eq, eq-within}
 
 -- ---- the fields of a word
 
@@ -25,40 +26,52 @@ ruleWord-is h p m = refl
 module _ (h p m : ℕ) (hp : p < 1024) (hm : m < 1024) where
   pub head-word : head (ruleWord h p m) ≡ h
   unfolding head ruleWord
-  head-word = omega arith
+  head-word = codec.high-word h p m hp hm
 
   pub mustOn-word : mustOn (ruleWord h p m) ≡ p
   unfolding mustOn ruleWord
-  mustOn-word = omega arith
+  mustOn-word = codec.middle-word h p m hp hm
 
   pub mustOff-word : mustOff (ruleWord h p m) ≡ m
   unfolding mustOff ruleWord
-  mustOff-word = omega arith
+  mustOff-word = codec.low-word h p m hp hm
+
+  -- all three at once
+  pub rule-fields : (w : ℕ) → w ≡ ruleWord h p m → (head w ≡ h) × (mustOn w ≡ p) × (mustOff w ≡ m)
+  rule-fields w e = (ap head e ∙ head-word, ap mustOn e ∙ mustOn-word, ap mustOff e ∙ mustOff-word)
 
 pub word-fields : (w : ℕ) → ruleWord (head w) (mustOn w) (mustOff w) ≡ w
 unfolding ruleWord head mustOn mustOff
-word-fields w = omega arith
+word-fields w = codec.word-fields w
 
 -- the masks of a body fit ten relays, whatever the word
 pub mustOn-small : (w : ℕ) → mustOn w < 1024
 unfolding mustOn
-mustOn-small w = omega arith
+mustOn-small w = codec.middle-small w
 
 pub mustOff-small : (w : ℕ) → mustOff w < 1024
 unfolding mustOff
-mustOff-small w = omega arith
+mustOff-small w = codec.low-small w
 
--- a word is determined by its fields
 pub same-word : (w r : ℕ) → head w ≡ head r → mustOn w ≡ mustOn r → mustOff w ≡ mustOff r → w ≡ r
-same-word w r a b c = cc (word-fields w, word-fields r)
+unfolding head mustOn mustOff
+same-word w r a b c = codec.same-word w r a b c
+
+-- ---- the words of a head
+
+pub head-range : (h w : ℕ) → head w ≡ h → (h * 1048576 ≤ w) × (w < (h + 1) * 1048576)
+unfolding head
+head-range h w e = codec.high-range h w e
+
+pub range-head : (h w : ℕ) → h * 1048576 ≤ w → w < (h + 1) * 1048576 → head w ≡ h
+unfolding head
+range-head h w a b = codec.range-high h w a b
+
+pub head-up : (w r : ℕ) → w ≤ r → head w ≤ head r
+unfolding head
+head-up w r l = codec.high-up w r l
 
 -- ---- what the tests say
-
-pub record Rule (n w : ℕ) : Type 0 where
-  pub head-lt : head w < n
-  pub mustOn-lt : mustOn w < 2 ^ n
-  pub mustOff-lt : mustOff w < 2 ^ n
-  pub disjoint : apart (mustOn w) (mustOff w) ≡ true
 
 pub rule-e : (n w : ℕ) → validRule n w ≡ true → Rule n w
 unfolding validRule
@@ -157,34 +170,29 @@ narrows-le w r p =
     let x = narrows-e w r p in
     omega (arith, word-fields w, word-fields r, x .one-head, within-le (mustOn r) (mustOn w) (x .mustOn-in), within-le (mustOff r) (mustOff w) (x .mustOff-in))
 
-as-blocks : (w : ℕ) → w ≡ (head w * 1024 + mustOn w) * 1024 + mustOff w
-unfolding head mustOn mustOff
-as-blocks w = omega arith
-
 -- the bits that two words share, field by field
-shared : (r w : ℕ) → bitAnd r w ≡ (bitAnd (head r) (head w) * 1024 + bitAnd (mustOn r) (mustOn w)) * 1024 + bitAnd (mustOff r) (mustOff w)
-shared r w =
-    ap₂ bitAnd (as-blocks r) (as-blocks w)
-    ∙ and-block 10 (head r * 1024 + mustOn r) (head w * 1024 + mustOn w) (mustOff r) (mustOff w) (mustOff-small r) (mustOff-small w)
-    ∙ ap (λ (a : ℕ). a * 1024 + bitAnd (mustOff r) (mustOff w))
-    (and-block 10 (head r) (head w) (mustOn r) (mustOn w) (mustOn-small r) (mustOn-small w))
+shared : (r w : ℕ) → bitAnd r w ≡ ruleWord (bitAnd (head r) (head w)) (bitAnd (mustOn r) (mustOn w)) (bitAnd (mustOff r) (mustOff w))
+unfolding ruleWord head mustOn mustOff
+shared r w = codec.and-word r w
 
 one-head-shared : (r w : ℕ) → head w ≡ head r → bitAnd (head r) (head w) ≡ head r
 one-head-shared r w e = ap (bitAnd (head r)) e ∙ and-self (head r)
 
 -- the bits of a rule's word are on in the word of a rule that narrows it: the quick test of code, one `&` and one compare
 pub narrows-word : (w r : ℕ) → narrows w r ≡ true → bitAnd r w ≡ r
+unfolding ruleWord
 narrows-word w r p =
     let x = narrows-e w r p in
     let h = one-head-shared r w (x .one-head) in
-    omega (arith, shared r w, h, within-eq (mustOn r) (mustOn w) (x .mustOn-in), within-eq (mustOff r) (mustOff w) (x .mustOff-in), as-blocks r)
+    omega (arith, shared r w, h, within-eq (mustOn r) (mustOn w) (x .mustOn-in), within-eq (mustOff r) (mustOff w) (x .mustOff-in), word-fields r)
 
 -- and back, for rules of one head
 pub word-narrows : (w r : ℕ) → head w ≡ head r → bitAnd r w ≡ r → narrows w r ≡ true
+unfolding ruleWord
 word-narrows w r e q =
     let h = one-head-shared r w e in
     let s = shared r w in
-    let f = as-blocks r in
+    let f = word-fields r in
     let bp = and-lt 10 (mustOn r) (mustOn w) (mustOn-small r) (mustOn-small w) in
     let bm = and-lt 10 (mustOff r) (mustOff w) (mustOff-small r) (mustOff-small w) in
     narrows-i w r (record {
@@ -254,14 +262,12 @@ module _ (n : ℕ) (small : n ≤ 10) where
   from-rule w f =
       let ph : f .p < 1024 = mask-small (f .p-lt) in
       let mh : f .m < 1024 = mask-small (f .m-lt) in
-      let eh : head w ≡ f .h = ap head (f .is) ∙ head-word (f .h) (f .p) (f .m) ph mh in
-      let ep : mustOn w ≡ f .p = ap mustOn (f .is) ∙ mustOn-word (f .h) (f .p) (f .m) ph mh in
-      let em : mustOff w ≡ f .m = ap mustOff (f .is) ∙ mustOff-word (f .h) (f .p) (f .m) ph mh in
+      let is = rule-fields (f .h) (f .p) (f .m) ph mh w (f .is) in
       record {
-        head-lt = rw eh (f .h-lt);
-        mustOn-lt = rw ep (f .p-lt);
-        mustOff-lt = rw em (f .m-lt);
-        disjoint = ap₂ apart ep em ∙ sym (allOff-apart (f .p) (f .m) ph) ∙ f .disj;
+        head-lt = rw (is .0) (f .h-lt);
+        mustOn-lt = rw (is .1) (f .p-lt);
+        mustOff-lt = rw (is .2) (f .m-lt);
+        disjoint = ap₂ apart (is .1) (is .2) ∙ sym (allOff-apart (f .p) (f .m) ph) ∙ f .disj;
       }
 
   -- the list holds the rules of the panel and nothing else

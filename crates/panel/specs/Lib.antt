@@ -1,4 +1,5 @@
 pub mod Masks
+pub mod Codec
 pub mod Rules
 pub mod Transitions
 pub mod Contacts

@@ -2,6 +2,7 @@
 use Prim.Native.Nat.{ℕ, zero, suc, _+_, _/_, _%_, _^_}
 use mathlib.Core.Bool.{Bool, true, false, not, _&&_, _||_}
 use mathlib.Core.List.{List, [], _∷_}
+use lib.Bits.{bitAnd}
 use lib.Dec.{eqb, ltb}
 use Rattle.table.specs.Lists.{all}
 
@@ -24,6 +25,14 @@ allOn a b = all (λ v. not (on v a) || on v b) relays
 -- every bit of a is off in b
 unfoldable pub allOff : ℕ → ℕ → Bool
 allOff a b = all (λ v. not (on v a) || not (on v b)) relays
+
+-- the same two tests as code makes them, by one `&`: every bit of a is on in b
+unfoldable pub within : ℕ → ℕ → Bool
+within a b = eqb (bitAnd a b) a
+
+-- and every bit of a is off in b
+unfoldable pub apart : ℕ → ℕ → Bool
+apart a b = eqb (bitAnd a b) 0
 
 abbrev pub bitIf : Bool → ℕ → ℕ
 bitIf true v = 2 ^ v

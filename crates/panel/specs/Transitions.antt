@@ -6,6 +6,7 @@ use Rattle.panel.specs.Masks.{on}
 use Rattle.panel.specs.Rules.{head, covers}
 
 -- the word of the transition from the state i to its successor j: I × 1,024 + J
+-- (where the relays observed stand between them, it is a word of Codec too: `wordOf i k j`, with `high`, `middle` and `low` to read it)
 unfoldable pub transitionWord : ℕ → ℕ → ℕ
 transitionWord i j = i * 1024 + j
 

@@ -8,13 +8,13 @@ use native.Mathlib.Nat.{lt-of-lt-of-le}
 use native.Mathlib.Omega.{arith}
 use lib.Dec.{eqb}
 use borrow.Author.Tests.{eqb-true, eq-eqb}
-use Rattle.panel.specs.Masks.{on, relays}
-use Rattle.panel.specs.Rules.{ruleWord, head, mustOn, mustOff, covers}
+use Rattle.panel.specs.Masks.{on, relays, within, apart}
+use Rattle.panel.specs.Rules.{ruleWord, head, mustOn, mustOff, covers, Rule}
 use Rattle.panel.specs.Transitions.{state, next, rests, observed}
 use Rattle.prime.specs.Sheets.{consistent, negative, sheetOf, pullsIn, applySheet}
 use Rattle.table.proofs.Basics.{and-l, and-r, and-i, not-i, not-e, passes, same-test, any-e, any-i, all-e}
-use Rattle.panel.proofs.Masks.{within, apart, within-refl, within-antisym, apart-on, on-within, on-apart, not-on, on-not, same-bits, relays-i, bits-lt, bits-on}
-use Rattle.panel.proofs.Words.{Rule, covers-e, covers-i, narrows-e, narrows-covers, mask-small, head-word, mustOn-word, mustOff-word}
+use Rattle.panel.proofs.Masks.{within-refl, within-antisym, apart-on, on-within, on-apart, not-on, on-not, same-bits, relays-i, bits-lt, bits-on}
+use Rattle.panel.proofs.Words.{covers-e, covers-i, narrows-e, narrows-covers, mask-small, head-word, mustOn-word, mustOff-word}
 use Rattle.prime.proofs.Least.{member-e, sheet-narrowed}
 use Rattle.prime.proofs.Laws.{spared-e, spared-i, consistent-e, consistent-i}
 

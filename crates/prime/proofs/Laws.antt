@@ -7,13 +7,14 @@ use Prim.Native.Nat.{ℕ, suc, _+_, _*_, _≤_, _<_}
 use native.Mathlib.Omega.{arith}
 use lib.Dec.{lit<}
 use lib.Pow.{pow-pos}
-use Rattle.panel.specs.Rules.{head, mustOn, mustOff, ruleWord, covers, narrows}
+use Rattle.panel.specs.Rules.{head, mustOn, mustOff, ruleWord, covers, narrows, Rule}
 use Rattle.panel.specs.Transitions.{state, rests, spared}
 use Rattle.prime.specs.Sheets.{consistent, sheetOf, permits, takeSheet, joinSheet, freshSheet, takeAll}
 use Rattle.table.proofs.Basics.{and-l, and-r, and-i, not-i, not-e, passes, same-test, all-e, all-i, each-e, each-i}
 use Rattle.table.proofs.Increasing.{each-increasing}
-use Rattle.panel.proofs.Masks.{within, apart, eq-within, eq-apart}
-use Rattle.panel.proofs.Words.{Rule, narrows-e, narrows-i, narrows-covers, narrows-antisym, ruleWord-is, head-word, mustOn-word, mustOff-word}
+use Rattle.panel.specs.Masks.{within, apart}
+use Rattle.panel.proofs.Masks.{eq-within, eq-apart}
+use Rattle.panel.proofs.Words.{narrows-e, narrows-i, narrows-covers, narrows-antisym, ruleWord-is, head-word, mustOn-word, mustOff-word}
 use Rattle.prime.proofs.Least.{Good, Least, Upward, permits-up, both-up, sheet-unique, sheet-good, sheet-ext, sheet-permits, good-sheet}
 
 -- ---- the tests are closed upwards

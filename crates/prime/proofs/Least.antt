@@ -10,11 +10,11 @@ use lib.Arith.{lt-of-le-ne}
 use lib.Dec.{eqb}
 use borrow.Author.Tests.{eqb-true, eq-eqb}
 use Rattle.table.specs.Lists.{any, all, increasing}
-use Rattle.panel.specs.Rules.{validRule, narrows, rules}
+use Rattle.panel.specs.Rules.{validRule, narrows, rules, Rule}
 use Rattle.prime.specs.Sheets.{least, sheetWhere, permits, antichain, goodSheet}
 use Rattle.table.proofs.Basics.{and-l, and-r, and-i, or-e, or-l, or-r, not-i, not-e, either, passes, same-test, any-e, any-i, all-e, all-i, filter-e, filter-i}
 use Rattle.table.proofs.Increasing.{first-below, rest-increasing, filter-increasing, increasing-unique}
-use Rattle.panel.proofs.Words.{Rule, rule-e, rule-i, narrows-refl, narrows-trans, narrows-antisym, narrows-le, rules-i, rules-e, rules-increasing}
+use Rattle.panel.proofs.Words.{rule-e, rule-i, narrows-refl, narrows-trans, narrows-antisym, narrows-le, rules-i, rules-e, rules-increasing}
 
 pub permits-e : (s : List ℕ) (w : ℕ) → permits s w ≡ true → (r : ℕ) × Mem r s × (narrows w r ≡ true)
 unfolding permits

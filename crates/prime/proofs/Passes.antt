@@ -21,7 +21,7 @@ use Rattle.panel.specs.Masks.{on}
 use Rattle.panel.specs.Rules.{ruleWord, head, validRule, covers, contains, narrows}
 use Rattle.panel.specs.Transitions.{state, validTransition}
 use Rattle.panel.proofs.Masks.{bit, same-bits, on-or-l, on-or-r, on-or-e, on-bit, bit-on, on-below, add-on, add-other, off-bit}
-use Rattle.panel.proofs.Words.{rule-e, narrows-e, narrows-le, word-fields, mustOn-small, mustOff-small}
+use Rattle.panel.proofs.Words.{head-up, rule-e, narrows-e, narrows-le, word-fields, mustOn-small, mustOff-small}
 use Rattle.panel.proofs.Transitions.{transition-e}
 use Rattle.prime.specs.Books.{statesUp, goodBook}
 use Rattle.prime.specs.Sheets.{antichain, goodSheet, pullsIn, applySheet, orBit, pulled}
@@ -58,10 +58,6 @@ rules-start n s =
     ∙ rises-is (validRule n) (λ w. w) s ∙ rises-start (validRule n) (λ w. w) s
 
 -- ---- a rule that a later one narrows
-
-head-up : (a b : ℕ) → a ≤ b → head a ≤ head b
-unfolding head
-head-up a b l = omega arith
 
 -- where the head changes, no rule of the head follows
 none-after : (w r : ℕ) (rest : List ℕ) → w < r → increasing (r ∷ rest) ≡ true → (head r ≡ head w → ⊥) → any (λ x. narrows x w) (r ∷ rest) ≡ false

@@ -7,8 +7,8 @@ use Prim.Native.Nat.{ℕ, _≤_}
 use lib.Dec.{eqb}
 use borrow.Author.Tests.{eq-eqb}
 use Rattle.table.proofs.Basics.{and-r, and-i}
-use Rattle.panel.specs.Rules.{head, covers, contains, narrows}
-use Rattle.panel.proofs.Words.{Rule, narrows-e}
+use Rattle.panel.specs.Rules.{head, covers, contains, narrows, Rule}
+use Rattle.panel.proofs.Words.{narrows-e}
 use Rattle.prime.specs.Sheets.{negative, consistent, sheetOf, joinSheet}
 use Rattle.prime.proofs.Least.{Least, member-e, member-i}
 use Rattle.prime.proofs.Laws.{sheetOf-members, join-sheetOf}

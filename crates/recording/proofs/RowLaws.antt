@@ -13,8 +13,8 @@ use borrow.Author.Tests.{eq-eqb, ne-eqb}
 use Rattle.lines.specs.declared.Masks.{Masks}
 use Rattle.table.proofs.Basics.{and-l, and-r}
 use Rattle.panel.specs.Transitions.{transitionWord}
-use Rattle.panel.specs.Masks.{allOn, allOff}
-use Rattle.panel.proofs.Masks.{within, apart, allOn-within, allOff-apart, within-le, on-within, on-not, apart-on}
+use Rattle.panel.specs.Masks.{allOn, allOff, within, apart}
+use Rattle.panel.proofs.Masks.{allOn-within, allOff-apart, within-le, on-within, on-not, apart-on}
 use Rattle.lines.specs.Bounds.{RowOk}
 use Rattle.recording.specs.Rows.{matchesOf, wordsBelow}
 

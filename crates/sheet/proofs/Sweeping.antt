@@ -16,9 +16,9 @@ use Rattle.table.proofs.Basics.{either, false-test, at-in, each-front}
 use Rattle.table.proofs.Inserting.{insertAll-length, insertAll-e}
 use Rattle.table.proofs.Sums.{sum, remove-e, remove-length}
 use Rattle.table.proofs.Tables.{remove-at, insertAll-past, before-below, mem-drop}
-use Rattle.panel.specs.Rules.{validRule}
+use Rattle.panel.specs.Rules.{validRule, Rule}
 use Rattle.panel.specs.Transitions.{state, spared}
-use Rattle.panel.proofs.Words.{Rule, rule-i}
+use Rattle.panel.proofs.Words.{rule-i}
 use Rattle.panel.proofs.Candidates.{candidate-above}
 use Rattle.prime.specs.Sheets.{goodSheet, takeSheet}
 use Rattle.prime.proofs.Least.{Good, good-e}

@@ -7,11 +7,11 @@ use native.Mathlib.Nat.{pow-suc, lt-of-le-of-lt}
 use native.Mathlib.Omega.{arith}
 use lib.Pow.{pow-pos}
 use Rattle.table.proofs.Basics.{either, false-test}
-use Rattle.panel.specs.Masks.{on}
-use Rattle.panel.specs.Rules.{ruleWord, head, mustOn, mustOff, narrows}
+use Rattle.panel.specs.Masks.{on, within, apart}
+use Rattle.panel.specs.Rules.{ruleWord, head, mustOn, mustOff, narrows, Rule}
 use Rattle.panel.specs.Contacts.{free, contact, candidate}
-use Rattle.panel.proofs.Masks.{within, apart, on-le, sub-off, within-on, within-apart, apart-comm, apart-on, on-within, not-within}
-use Rattle.panel.proofs.Words.{Rule, Narrows, narrows-e, narrows-i, ruleWord-is, word-fields, head-word, mustOn-word, mustOff-word, mask-small}
+use Rattle.panel.proofs.Masks.{on-le, sub-off, within-on, within-apart, apart-comm, apart-on, on-within, not-within}
+use Rattle.panel.proofs.Words.{Narrows, narrows-e, narrows-i, ruleWord-is, word-fields, rule-fields, mask-small}
 use Rattle.panel.proofs.Candidates.{add-keeps, free-mustOn, free-mustOff, free-i, added}
 use Rattle.spans.specs.Fewer.{pickWord, without}
 
@@ -72,18 +72,16 @@ module _ (n : ℕ) (small : n ≤ 10) (w : ℕ) (rr : Rule n w) (v : ℕ) where
       let lt : mustOn w - 2 ^ v < 2 ^ n = omega (arith, rr .mustOn-lt) in
       let ps = mask-small n small lt in
       let ms = mask-small n small (rr .mustOff-lt) in
-      let eh : head (w - 2 ^ v * 1024) ≡ head w = ap head is ∙ head-word (head w) (mustOn w - 2 ^ v) (mustOff w) ps ms in
-      let ep : mustOn (w - 2 ^ v * 1024) ≡ mustOn w - 2 ^ v = ap mustOn is ∙ mustOn-word (head w) (mustOn w - 2 ^ v) (mustOff w) ps ms in
-      let em : mustOff (w - 2 ^ v * 1024) ≡ mustOff w = ap mustOff is ∙ mustOff-word (head w) (mustOn w - 2 ^ v) (mustOff w) ps ms in
+      let f = rule-fields (head w) (mustOn w - 2 ^ v) (mustOff w) ps ms (w - 2 ^ v * 1024) is in
       record {
         is-rule = record {
-          head-lt = rw eh (rr .head-lt);
-          mustOn-lt = rw ep lt;
-          mustOff-lt = rw em (rr .mustOff-lt);
-          disjoint = ap₂ apart ep em ∙ within-apart (mustOn w - 2 ^ v) (mustOn w) (mustOff w) (sub-within n v (mustOn w) (rr .mustOn-lt) p) (rr .disjoint);
+          head-lt = rw (f .0) (rr .head-lt);
+          mustOn-lt = rw (f .1) lt;
+          mustOff-lt = rw (f .2) (rr .mustOff-lt);
+          disjoint = ap₂ apart (f .1) (f .2) ∙ within-apart (mustOn w - 2 ^ v) (mustOn w) (mustOff w) (sub-within n v (mustOn w) (rr .mustOn-lt) p) (rr .disjoint);
         };
-        lacks = free-i v (w - 2 ^ v * 1024) (λ q. sub-off v (mustOn w) p (sym (ap (on v) ep) ∙ q))
-            (λ q. apart-on (mustOn w) (mustOff w) v (rr .disjoint) p (sym (ap (on v) em) ∙ q));
+        lacks = free-i v (w - 2 ^ v * 1024) (λ q. sub-off v (mustOn w) p (sym (ap (on v) (f .1)) ∙ q))
+            (λ q. apart-on (mustOn w) (mustOff w) v (rr .disjoint) p (sym (ap (on v) (f .2)) ∙ q));
         below = omega (arith, room-on w v p, pow-pos v);
         seen = 0;
         back = ap (λ (b : Bool). w - 2 ^ v * 1024 + contact b v) on-zero ∙ omega (arith, room-on w v p);
@@ -97,19 +95,17 @@ module _ (n : ℕ) (small : n ≤ 10) (w : ℕ) (rr : Rule n w) (v : ℕ) where
       let lt : mustOff w - 2 ^ v < 2 ^ n = omega (arith, rr .mustOff-lt) in
       let ps = mask-small n small (rr .mustOn-lt) in
       let ms = mask-small n small lt in
-      let eh : head (w - 2 ^ v) ≡ head w = ap head is ∙ head-word (head w) (mustOn w) (mustOff w - 2 ^ v) ps ms in
-      let ep : mustOn (w - 2 ^ v) ≡ mustOn w = ap mustOn is ∙ mustOn-word (head w) (mustOn w) (mustOff w - 2 ^ v) ps ms in
-      let em : mustOff (w - 2 ^ v) ≡ mustOff w - 2 ^ v = ap mustOff is ∙ mustOff-word (head w) (mustOn w) (mustOff w - 2 ^ v) ps ms in
+      let f = rule-fields (head w) (mustOn w) (mustOff w - 2 ^ v) ps ms (w - 2 ^ v) is in
       let d = apart-comm (mustOn w) (mustOff w) (rr .disjoint) in
       record {
         is-rule = record {
-          head-lt = rw eh (rr .head-lt);
-          mustOn-lt = rw ep (rr .mustOn-lt);
-          mustOff-lt = rw em lt;
-          disjoint = ap₂ apart ep em ∙ apart-comm (mustOff w - 2 ^ v) (mustOn w) (within-apart (mustOff w - 2 ^ v) (mustOff w) (mustOn w) (sub-within n v (mustOff w) (rr .mustOff-lt) p) d);
+          head-lt = rw (f .0) (rr .head-lt);
+          mustOn-lt = rw (f .1) (rr .mustOn-lt);
+          mustOff-lt = rw (f .2) lt;
+          disjoint = ap₂ apart (f .1) (f .2) ∙ apart-comm (mustOff w - 2 ^ v) (mustOn w) (within-apart (mustOff w - 2 ^ v) (mustOff w) (mustOn w) (sub-within n v (mustOff w) (rr .mustOff-lt) p) d);
         };
-        lacks = free-i v (w - 2 ^ v) (λ q. apart-on (mustOff w) (mustOn w) v d p (sym (ap (on v) ep) ∙ q))
-            (λ q. sub-off v (mustOff w) p (sym (ap (on v) em) ∙ q));
+        lacks = free-i v (w - 2 ^ v) (λ q. apart-on (mustOff w) (mustOn w) v d p (sym (ap (on v) (f .1)) ∙ q))
+            (λ q. sub-off v (mustOff w) p (sym (ap (on v) (f .2)) ∙ q));
         below = omega (arith, room-off w v p, pow-pos v);
         seen = mustOff w;
         back = ap (λ (b : Bool). w - 2 ^ v + contact b v) p ∙ omega (arith, room-off w v p);

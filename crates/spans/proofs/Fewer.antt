@@ -10,9 +10,9 @@ use lib.Dec.{eqb}
 use borrow.Author.Tests.{eqb-true, eq-eqb}
 use Rattle.table.proofs.Basics.{and-l, and-r, and-i, or-e, or-l, or-r, not-i, not-e, either, false-test}
 use Rattle.panel.specs.Masks.{on}
-use Rattle.panel.specs.Rules.{mustOn, mustOff, narrows}
+use Rattle.panel.specs.Rules.{mustOn, mustOff, narrows, Rule}
 use Rattle.panel.specs.Contacts.{free}
-use Rattle.panel.proofs.Words.{Rule, narrows-antisym}
+use Rattle.panel.proofs.Words.{narrows-antisym}
 use Rattle.panel.proofs.Candidates.{candidate-narrows}
 use Rattle.prime.specs.Sheets.{least}
 use Rattle.prime.proofs.Least.{Least, Upward, least-e, least-i}

@@ -6,7 +6,7 @@ use Prim.Native.Nat.{ℕ, _+_, _*_, _≤_, _<_}
 use native.Mathlib.Omega.{arith}
 use lib.ListN.{length, take, drop, length-append}
 use Rattle.panel.specs.Rules.{head}
-use Rattle.panel.proofs.Words.{narrows-e}
+use Rattle.panel.proofs.Words.{head-range, range-head, narrows-e}
 use Rattle.prime.specs.Sheets.{sheetWhere}
 use Rattle.prime.proofs.Least.{Least, member-e, member-i, sheet-increasing}
 use Rattle.spans.specs.Parts.{between, ofHead, over, Laid}
@@ -14,15 +14,7 @@ use Rattle.spans.proofs.Parts.{between-e, between-i, between-increasing
 use Rattle.spans.proofs.Overwriting.{over-over, over-length, laid}
 use Rattle.spans.proofs.Walking.{Counted, Written}
 
--- ---- which words belong to a head
-
-pub head-range : (h w : ℕ) → head w ≡ h → (h * 1048576 ≤ w) × (w < (h + 1) * 1048576)
-unfolding head
-head-range h w e = (omega arith, omega arith)
-
-pub range-head : (h w : ℕ) → h * 1048576 ≤ w → w < (h + 1) * 1048576 → head w ≡ h
-unfolding head
-range-head h w a b = omega arith
+-- ---- the part of one head
 
 module _ (n : ℕ) (small : n ≤ 10) (h : ℕ) where
   least-head : (q q′ : ℕ → Bool) → ((w : ℕ) → head w ≡ h → q w ≡ q′ w) → (w : ℕ) → head w ≡ h → Least n q w → Least n q′ w

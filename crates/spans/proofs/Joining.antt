@@ -7,14 +7,14 @@ use native.Mathlib.Omega.{arith}
 use lib.ListN.{length}
 use Rattle.table.proofs.Basics.{same-test, and-r}
 use Rattle.panel.specs.Rules.{head}
-use Rattle.panel.proofs.Words.{narrows-e}
+use Rattle.panel.proofs.Words.{head-range, range-head, narrows-e}
 use Rattle.prime.specs.Sheets.{sheetWhere, permits, joinSheet}
 use Rattle.prime.proofs.Least.{permits-e, permits-i}
 use Rattle.spans.specs.Parts.{between, ofHead}
 use Rattle.spans.specs.Touching.{bothPermit, touches, bothTouch}
 use Rattle.spans.proofs.Parts.{between-e, between-i}
 use Rattle.spans.proofs.Touching.{touches-permits}
-use Rattle.spans.proofs.Heads.{head-range, range-head, head-ext, head-none}
+use Rattle.spans.proofs.Heads.{head-ext, head-none}
 
 -- ---- join is the walk with `bothPermit`
 

@@ -7,7 +7,8 @@ use native.Mathlib.Nat.{pow-suc}
 use native.Mathlib.Omega.{arith}
 use lib.Arith.{lt-one}
 use lib.Bits.{bitAnd, and-step, and-lt, and-zero-r, and-self}
-use Rattle.panel.proofs.Masks.{within, apart, and-assoc, eq-within, within-on, on-apart, not-on}
+use Rattle.panel.specs.Masks.{within, apart}
+use Rattle.panel.proofs.Masks.{and-assoc, eq-within, within-on, on-apart, not-on}
 
 -- the next mask above m that is apart from p
 pub nextOff : ℕ → ℕ → ℕ → ℕ

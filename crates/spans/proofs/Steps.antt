@@ -5,9 +5,10 @@ use Prim.Native.Nat.{ℕ, _+_, _-_, _*_, _/_, _%_, _^_, _≤_, _<_}
 use native.Mathlib.Omega.{arith}
 use lib.Bits.{bitAnd, and-zero-r, and-le-r}
 use lib.Pow.{pow-pos}
-use Rattle.panel.specs.Rules.{ruleWord, head, mustOn, mustOff}
-use Rattle.panel.proofs.Masks.{apart-eq, eq-apart, apart-comm, apart}
-use Rattle.panel.proofs.Words.{Rule, ruleWord-is, word-fields, head-word, mustOn-word, mustOff-word, mustOn-small, mustOff-small, mask-small}
+use Rattle.panel.specs.Rules.{ruleWord, head, mustOn, mustOff, Rule}
+use Rattle.panel.specs.Masks.{apart}
+use Rattle.panel.proofs.Masks.{apart-eq, eq-apart, apart-comm}
+use Rattle.panel.proofs.Words.{ruleWord-is, word-fields, rule-fields, mustOn-small, mustOff-small, mask-small}
 use Rattle.spans.specs.Steps.{Spot, Next}
 use Rattle.spans.proofs.NextMask.{nextOff, nextOff-is, follows, nextOff-lt, nextOff-apart, sum-lt}
 
@@ -18,9 +19,7 @@ split : (x : ℕ) → x ≡ head x * 1048576 + mustOn x * 1024 + mustOff x
 split x = sym (word-fields x) ∙ ruleWord-is (head x) (mustOn x) (mustOff x)
 
 fields : (h p m x : ℕ) → p < 1024 → m < 1024 → x ≡ h * 1048576 + p * 1024 + m → (head x ≡ h) × (mustOn x ≡ p) × (mustOff x ≡ m)
-fields h p m x a b e =
-    let is : x ≡ ruleWord h p m = e ∙ sym (ruleWord-is h p m) in
-    (ap head is ∙ head-word h p m a b, ap mustOn is ∙ mustOn-word h p m a b, ap mustOff is ∙ mustOff-word h p m a b)
+fields h p m x a b e = rule-fields h p m a b x (e ∙ sym (ruleWord-is h p m))
 
 -- words with one on-mask: those from w on up to the next block of 1,024
 block : (x w m : ℕ) → m ≡ mustOff w → w < x → x < w - m + 1024 → (head x ≡ head w) × (mustOn x ≡ mustOn w) × (mustOff w < mustOff x)

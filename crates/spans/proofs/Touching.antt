@@ -9,7 +9,8 @@ use Rattle.table.specs.Lists.{any}
 use Rattle.table.proofs.Basics.{same-test, false-test, any-e, any-i}
 use Rattle.table.proofs.Searching.{anyLeft, any-start}
 use Rattle.panel.specs.Rules.{head, narrows}
-use Rattle.panel.proofs.Masks.{within, within-eq, eq-within, within-trans}
+use Rattle.panel.specs.Masks.{within}
+use Rattle.panel.proofs.Masks.{within-eq, eq-within, within-trans}
 use Rattle.panel.proofs.Words.{narrows-word, word-narrows}
 use Rattle.panel.proofs.Judging.{both-then, both-else}
 use Rattle.prime.specs.Sheets.{permits}

@@ -8,8 +8,8 @@ use lib.ListN.{length, length-append}
 use Rattle.table.specs.Lists.{consIf, has}
 use Rattle.table.proofs.Basics.{same-test}
 use Rattle.table.proofs.Counting.{has-e, has-i}
-use Rattle.panel.specs.Rules.{head}
-use Rattle.panel.proofs.Words.{Rule}
+use Rattle.panel.specs.Rules.{head, Rule}
+use Rattle.panel.proofs.Words.{range-head}
 use Rattle.prime.specs.Sheets.{least, sheetWhere}
 use Rattle.prime.proofs.Least.{least-e, least-i, member-e, member-i, sheet-increasing}
 use Rattle.spans.specs.Parts.{oneIf, between, over, putIf, ofHead}
@@ -134,8 +134,7 @@ module _ (n : ℕ) (small : n ≤ 10) (q : ℕ → Bool) (lo : ℕ) where
 
 module _ (n h w end : ℕ) (small : n ≤ 10) (hn : h < n) (lo : h * 1048576 ≤ w) (e : end ≡ (h + 1) * 1048576) (l : w < end) where
   is-head : head w ≡ h
-  unfolding head
-  is-head = omega arith
+  is-head = range-head h w lo (omega arith)
 
   walk-in : head w < n
   walk-in = omega (arith, is-head)

@@ -2,9 +2,8 @@
 use mathlib.Core.Path.{_≡_}
 use mathlib.Core.Bool.{true}
 use Prim.Native.Nat.{ℕ, _+_, _*_, _^_, _≤_, _<_}
-use Rattle.panel.specs.Rules.{head, mustOn, mustOff}
-use Rattle.panel.proofs.Masks.{apart}
-use Rattle.panel.proofs.Words.{Rule}
+use Rattle.panel.specs.Rules.{head, mustOn, mustOff, Rule}
+use Rattle.panel.specs.Masks.{apart}
 
 -- the body of w is one of a panel with n relays, whatever its head
 pub record Spot (n w : ℕ) : Type 0 where

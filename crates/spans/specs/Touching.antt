@@ -3,7 +3,7 @@ use Prim.Native.Nat.{ℕ}
 use mathlib.Core.Bool.{Bool, _&&_}
 use mathlib.Core.List.{List}
 use Rattle.table.specs.Lists.{any}
-use Rattle.panel.proofs.Masks.{within}
+use Rattle.panel.specs.Masks.{within}
 use Rattle.prime.specs.Sheets.{permits}
 
 -- both sheets permit w

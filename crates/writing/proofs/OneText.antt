@@ -12,9 +12,9 @@ use borrow.Author.Tests.{eq-eqb, eqb-true}
 use Rattle.table.specs.Lists.{all, increasing}
 use Rattle.table.proofs.Basics.{and-l, and-r}
 use Rattle.panel.specs.Masks.{on}
-use Rattle.panel.specs.Rules.{head, mustOn, mustOff, validRule}
+use Rattle.panel.specs.Rules.{head, mustOn, mustOff, validRule, Rule}
 use Rattle.panel.proofs.Masks.{same-bits, apart-on}
-use Rattle.panel.proofs.Words.{Rule, rule-e, same-word}
+use Rattle.panel.proofs.Words.{rule-e, same-word}
 use Rattle.prime.specs.Sheets.{goodSheet, antichain}
 use Rattle.fields.specs.Decimals.{decimal}
 use Rattle.fields.specs.Texts.{linesOf}

@@ -4,7 +4,8 @@ use Prim.Native.Nat.{_≤_, _-_}
 use native.Mathlib.Omega.{arith}
 use lib.ListN.{length}
 use Rattle.table.proofs.Searching.{anyLeft, any-here, any-more, any-end}
-use Rattle.panel.proofs.Masks.{within, eq-within}
+use Rattle.panel.specs.Masks.{within}
+use Rattle.panel.proofs.Masks.{eq-within}
 use Rattle.spans.specs.Touching.{touches}
 use Rattle.spans.proofs.Touching.{touches-start, within-not}
 use borrow.Author.Needs.{needs}
