@@ -10,7 +10,6 @@ use lib.Seq.{take-at, drop-at, length-take-le}
 use Rattle.table.specs.Lists.{increasing}
 use Rattle.table.specs.Surgery.{filled}
 use Rattle.table.proofs.Increasing.{increasing-unique}
-use Rattle.panel.proofs.Words.{rule-e, rule-i}
 use Rattle.prime.specs.Books.{union}
 use Rattle.prime.specs.Sheets.{sheetOf, joinSheet}
 use Rattle.prime.proofs.Laws.{sheetOf-good, sheetOf-members}
@@ -60,16 +59,8 @@ module _ (n : ℕ) (small : n ≤ 10) (ts b s : List ℕ) (p : Piece)
     sheet-in = sheet-in;
     is-sheet = used-sheet ∙ is;
     sheet-rising = ap increasing (used-sheet ∙ is) ∙ sheetOf-good n small ts .sorted;
-    only-prime = λ w m.
-        let k = sheetOf-prime n small ts w (subst (λ (z : List ℕ). Mem w z) (used-sheet ∙ is) m) in
-        record {
-          is-rule = rule-i n w (k .0);
-          is-consistent = k .1 .is-consistent;
-          no-other = λ r v e c f. k .1 .no-other r (rule-e n r v) (sym e) c f;
-        };
-    all-prime = λ w p.
-        subst (λ (z : List ℕ). Mem w z) (sym (used-sheet ∙ is))
-        (prime-sheetOf n small ts w (rule-e n w (p .is-rule)) (record { is-consistent = p .is-consistent; no-other = λ r v e c f. p .no-other r (rule-i n r v) (sym e) c f }));
+    only-prime = λ w m. sheetOf-prime n small ts w (subst (λ (z : List ℕ). Mem w z) (used-sheet ∙ is) m);
+    all-prime = λ w p. subst (λ (z : List ℕ). Mem w z) (sym (used-sheet ∙ is)) (prime-sheetOf n small ts w p);
   }
 
 -- the same, each at the front of its slice with 0 beyond: the piece is complete

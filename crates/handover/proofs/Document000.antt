@@ -12,7 +12,8 @@ use Rattle.panel.proofs.Words.{rule-e, rule-i, narrows-antisym}
 use Rattle.prime.specs.Sheets.{pullsIn, applySheet}
 use Rattle.prime.proofs.Laws.{spared-e, spared-i, consistent-e, consistent-i}
 use Rattle.prime.proofs.Apply.{consistent-covers, covers-consistent, pullsIn-e, pullsIn-i, apply-on, rests-e, rests-i, reproduces}
-use Rattle.handover.specs.Demands.{Consistent, Prime, Outcome, lent, sheetUsed, InUse, Learns}
+use Rattle.prime.specs.Primes.{Consistent, Prime}
+use Rattle.handover.specs.Demands.{Outcome, lent, sheetUsed, InUse, Learns}
 use Rattle.handover.specs.Document000.{pos, neg, Clause, Met, Follows, Proper, Subsumes, SameRule, ConsistentWith, PrimeRule, CompletePrime, ruleOf, programOf}
 use Rattle.handover.proofs.Demands.{learn-complete, learns-small, learns-booked}
 use Rattle.handover.proofs.Clauses.{covers-met, met-covers, contains-within, within-contains, subsumes-narrows, rule-proper, wordOf, word-rule, word-same}

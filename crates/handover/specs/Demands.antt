@@ -6,23 +6,11 @@ use mathlib.Core.List.{List, List·Memᴰ as Mem}
 use Prim.Native.Nat.{ℕ, _-_, _≤_}
 use lib.ListN.{length, drop, replicate}
 use Rattle.table.specs.Lists.{increasing}
-use Rattle.panel.specs.Rules.{head, validRule, covers, contains}
-use Rattle.prime.specs.Sheets.{negative, sheetOf}
+use Rattle.prime.specs.Sheets.{sheetOf}
+use Rattle.prime.specs.Primes.{Prime}
 use Rattle.answers.specs.declared.Answer.{Answer}
 use Rattle.learning.specs.Learn.{Learned}
 use Rattle.joining.specs.Joining.{Piece, piece, bookIn, sheetIn, Joined}
-
--- ---- prime, for the words ts themselves
-
--- the body of w covers no state that is negative for its head in ts
-abbrev pub Consistent : List ℕ → ℕ → Type 0
-Consistent ts w = (i : ℕ) → negative ts (head w) i ≡ true → covers w i ≡ true → ⊥
-
--- w is a rule of the panel whose body is consistent, and no other body that it contains is consistent
-pub record Prime (n : ℕ) (ts : List ℕ) (w : ℕ) : Type 0 where
-  pub is-rule : validRule n w ≡ true
-  pub is-consistent : Consistent ts w
-  pub no-other : (r : ℕ) → validRule n r ≡ true → head r ≡ head w → contains w r ≡ true → Consistent ts r → r ≡ w
 
 -- ---- what a call leaves
 

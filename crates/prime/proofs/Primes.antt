@@ -7,21 +7,13 @@ use Prim.Native.Nat.{ℕ, _≤_}
 use lib.Dec.{eqb}
 use borrow.Author.Tests.{eq-eqb}
 use Rattle.table.proofs.Basics.{and-r, and-i}
-use Rattle.panel.specs.Rules.{head, covers, contains, narrows, Rule}
-use Rattle.panel.proofs.Words.{narrows-e}
-use Rattle.prime.specs.Sheets.{negative, consistent, sheetOf, joinSheet}
+use Rattle.panel.specs.Rules.{head, contains, narrows}
+use Rattle.panel.proofs.Words.{rule-e, rule-i, narrows-e}
+use Rattle.prime.specs.Sheets.{consistent, sheetOf, joinSheet}
+use Rattle.prime.specs.Primes.{Prime}
 use Rattle.prime.proofs.Least.{Least, member-e, member-i}
 use Rattle.prime.proofs.Laws.{sheetOf-members, join-sheetOf}
 use Rattle.prime.proofs.Apply.{consistent-covers, covers-consistent}
-
--- the body of w covers no negative state of its head
-abbrev pub Consistent : List ℕ → ℕ → Type 0
-Consistent es w = (i : ℕ) → negative es (head w) i ≡ true → covers w i ≡ true → ⊥
-
--- w is consistent, and no other body that its body contains is consistent
-pub record Prime (n : ℕ) (es : List ℕ) (w : ℕ) : Type 0 where
-  pub is-consistent : Consistent es w
-  pub no-other : (r : ℕ) → Rule n r → head w ≡ head r → contains w r ≡ true → Consistent es r → r ≡ w
 
 one-head-contains : (w r : ℕ) → head w ≡ head r → contains w r ≡ true → narrows w r ≡ true
 unfolding narrows
@@ -32,23 +24,22 @@ unfolding narrows
 narrows-contains w r e = and-r (eqb (head w) (head r)) (contains w r) e
 
 module _ (n : ℕ) (small : n ≤ 10) where
-  pub sheetOf-prime : (es : List ℕ) (w : ℕ) → Mem w (sheetOf n es) → Rule n w × Prime n es w
+  pub sheetOf-prime : (es : List ℕ) (w : ℕ) → Mem w (sheetOf n es) → Prime n es w
   unfolding sheetOf
   sheetOf-prime es w m =
-      let k = member-e n small (consistent es) w m in (
-        k .0,
-        record {
-          is-consistent = consistent-covers es w (k .1 .holds);
-          no-other = λ r rr e c f. k .1 .smallest r rr (one-head-contains w r e c) (covers-consistent es r f);
-        },
-      )
+      let k = member-e n small (consistent es) w m in
+      record {
+        is-rule = rule-i n w (k .0);
+        is-consistent = consistent-covers es w (k .1 .holds);
+        no-other = λ r v e c f. k .1 .smallest r (rule-e n r v) (one-head-contains w r (sym e) c) (covers-consistent es r f);
+      }
 
-  pub prime-sheetOf : (es : List ℕ) (w : ℕ) → Rule n w → Prime n es w → Mem w (sheetOf n es)
+  pub prime-sheetOf : (es : List ℕ) (w : ℕ) → Prime n es w → Mem w (sheetOf n es)
   unfolding sheetOf
-  prime-sheetOf es w rr p =
-      member-i n small (consistent es) w rr (record {
+  prime-sheetOf es w p =
+      member-i n small (consistent es) w (rule-e n w (p .is-rule)) (record {
         holds = covers-consistent es w (p .is-consistent);
-        smallest = λ r k q e. p .no-other r k (narrows-e w r q .one-head) (narrows-contains w r q) (consistent-covers es r e);
+        smallest = λ r k q e. p .no-other r (rule-i n r k) (sym (narrows-e w r q .one-head)) (narrows-contains w r q) (consistent-covers es r e);
       })
 
   -- T2: the join of the sheets of two sets is the sheet of any list with the members of both

@@ -9,7 +9,7 @@ use Rattle.panel.specs.Rules.{head, validRule}
 use Rattle.prime.proofs.Apply.{negative-e, negative-i}
 use Rattle.writing.specs.SheetText.{sheetText}
 use Rattle.writing.proofs.OneText.{text-unique}
-use Rattle.handover.specs.Demands.{Consistent, Prime}
+use Rattle.prime.specs.Primes.{Consistent, Prime}
 use Rattle.promises.specs.Printed.{SameRows, SheetPrinted}
 
 module _ (ts us : List ℕ) (f : (t : ℕ) → Mem t ts → Mem t us) (g : (t : ℕ) → Mem t us → Mem t ts) where

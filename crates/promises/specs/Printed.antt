@@ -11,7 +11,7 @@ use Rattle.headers.specs.Places.{Place}
 use Rattle.recording.specs.Rows.{textWords}
 use Rattle.writing.specs.SheetText.{sheetText}
 use Rattle.program.specs.Program.{refusalLine}
-use Rattle.handover.specs.Demands.{Prime}
+use Rattle.prime.specs.Primes.{Prime}
 use Rattle.handover.specs.Learning.{Learnable, LearnRefused}
 
 -- ---- the recording
