@@ -10,7 +10,7 @@ use lib.ListN.{length, length-append}
 use borrow.Author.Tests.{le-leb, lt-leb, ltb-true, ltb-false}
 use Rattle.fields.specs.Decimals.{decimal}
 use Rattle.fields.proofs.DecimalLaws.{decimal-one, decimal-longer}
-use Rattle.writing.specs.SheetText.{headerText}
+use Rattle.writing.specs.TableText.{headerText}
 use Rattle.writing.specs.Writing.{Put}
 use Rattle.writing.proofs.PutLaws.{put-none, put-then, put-length}
 use Rattle.writing.proofs.TextLaws.{header-length}

@@ -12,7 +12,7 @@ use Rattle.recording.specs.Reading.{readAnswer, readList}
 use Rattle.learning.specs.Learn.{Run, going, refused}
 use Rattle.learning.specs.Running.{runIf}
 use Rattle.writing.specs.SheetText.{sheetText}
-use Rattle.writing.specs.Writing.{written, textLength}
+use Rattle.writing.specs.Writing.{written, countLength, textLength}
 use Rattle.writing.proofs.TextLaws.{sheet-length}
 use Rattle.writing.proofs.WriteLaws.{size-small}
 use Rattle.program.specs.Program.{ifRoom, entryCode, entryPlace, learnedRun, writtenRun, runText, printed, Runs}
@@ -45,7 +45,7 @@ run-within {out = out} x = rw (x .long) (room-within (length out) _)
 
 -- a sheet of at most 1,024 rules fits into the program's 24,576 bytes
 short-text : (n : ℕ) (s : List ℕ) → n ≤ 10 → length s ≤ 1024 → length (sheetText n s) ≤ 24576
-unfolding textLength
+unfolding textLength countLength
 short-text n s h k =
     let a = decimal-most 1 n (omega arith) in
     let b = decimal-most 3 (length s) (omega arith) in

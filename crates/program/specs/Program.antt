@@ -10,7 +10,8 @@ use Rattle.fields.specs.Decimals.{decimal}
 use Rattle.recording.specs.Reading.{readAnswer, readList}
 use Rattle.learning.specs.Learn.{Run, going, refused, choose, learnRun, runBook, runSheet}
 use Rattle.learning.specs.Running.{runIf}
-use Rattle.writing.specs.SheetText.{headerText, sheetText}
+use Rattle.writing.specs.TableText.{headerText}
+use Rattle.writing.specs.SheetText.{sheetText}
 use Rattle.writing.specs.Writing.{written}
 
 -- `refused C at P` with LF, C the code and P the place

@@ -7,7 +7,8 @@ use native.Mathlib.Omega.{arith}
 use Rattle.fields.specs.Bytes.{markOf, spaceMark}
 use Rattle.fields.specs.Decimals.{decimal}
 use Rattle.fields.proofs.DecimalLaws.{AllDigits, decimal-all-digits, decimal-unique}
-use Rattle.writing.specs.SheetText.{headerText, sheetText}
+use Rattle.writing.specs.TableText.{headerText, tableText}
+use Rattle.writing.specs.SheetText.{sheetText}
 use Rattle.program.specs.Program.{refusalLine}
 
 -- no digit is a blank
@@ -33,5 +34,5 @@ line-unique c p d q e =
     (decimal-unique c d (k .0), decimal-unique p q digits)
 
 pub line-not-sheet : (c p n : ℕ) (s : List ℕ) → refusalLine c p ≡ sheetText n s → ⊥
-unfolding refusalLine sheetText headerText
+unfolding refusalLine sheetText tableText headerText
 line-not-sheet c p n s e = omega (arith, head-eq-of-cons-eq e)

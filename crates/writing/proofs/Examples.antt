@@ -6,7 +6,8 @@ use Rattle.panel.specs.Masks.{panelSize, relays, on, allOn, allOff}
 use Rattle.panel.specs.Rules.{head, mustOn, mustOff, validRule, contains, narrows}
 use Rattle.prime.specs.Sheets.{goodSheet}
 use Rattle.fields.specs.Decimals.{decimalFrom, decimal}
-use Rattle.writing.specs.SheetText.{inputByte, outputByte, columns, rowText, rowsText, headerText, sheetText}
+use Rattle.writing.specs.TableText.{bodyByte, headByte, columns, rowText, rowsText, headerText, typeText, countText, tableText}
+use Rattle.writing.specs.SheetText.{sheetText}
 use Rattle.writing.specs.Writing.{writeCode}
 
 -- the sheet of the panel of document 000
@@ -18,10 +19,10 @@ abbrev text : List ℕ
 text = 46 ∷ 105 ∷ 32 ∷ 51 ∷ 10 ∷ 46 ∷ 111 ∷ 32 ∷ 51 ∷ 10 ∷ 46 ∷ 116 ∷ 121 ∷ 112 ∷ 101 ∷ 32 ∷ 102 ∷ 10 ∷ 46 ∷ 112 ∷ 32 ∷ 51 ∷ 10 ∷ 45 ∷ 49 ∷ 45 ∷ 32 ∷ 49 ∷ 48 ∷ 48 ∷ 10 ∷ 49 ∷ 45 ∷ 49 ∷ 32 ∷ 48 ∷ 49 ∷ 48 ∷ 10 ∷ 48 ∷ 45 ∷ 45 ∷ 32 ∷ 48 ∷ 48 ∷ 49 ∷ 10 ∷ 46 ∷ 101 ∷ 10 ∷ []
 
 pub panel-sheet : sheetText 3 sheet ≡ text
-unfolding decimalFrom decimal on head mustOn mustOff inputByte outputByte columns rowText rowsText headerText sheetText
+unfolding decimalFrom decimal on head mustOn mustOff bodyByte headByte columns rowText rowsText headerText typeText countText tableText sheetText
 panel-sheet = refl
 
 -- in 50 bytes it is done; in one less, 12; with 4 rules, 3; for 11 relays, 2; and words 0 and 1024 are no good sheet of one relay
 pub panel-codes : ((writeCode 3 sheet 3 50 ≡ 0) × (writeCode 3 sheet 3 49 ≡ 12)) × (((writeCode 3 sheet 4 50 ≡ 3) × (writeCode 11 sheet 4 0 ≡ 2)) × (writeCode 1 (0 ∷ 1024 ∷ []) 2 0 ≡ 5))
-unfolding panelSize relays on allOn allOff head mustOn mustOff validRule contains narrows goodSheet decimalFrom decimal inputByte outputByte columns rowText rowsText headerText sheetText writeCode
+unfolding panelSize relays on allOn allOff head mustOn mustOff validRule contains narrows goodSheet decimalFrom decimal bodyByte headByte columns rowText rowsText headerText typeText countText tableText sheetText writeCode
 panel-codes = ((refl, refl), ((refl, refl), refl))

@@ -21,7 +21,8 @@ use Rattle.fields.specs.Texts.{linesOf}
 use Rattle.fields.proofs.DecimalLaws.{decimal-unique, decimal-all-digits}
 use Rattle.fields.proofs.FieldLaws.{end-or}
 use Rattle.fields.proofs.JoinLaws.{NoFeed, lines-cons-feed, digits-no-feed}
-use Rattle.writing.specs.SheetText.{inputByte, outputByte, columns, rowText, rowsText, headerText, sheetText}
+use Rattle.writing.specs.TableText.{bodyByte, headByte, columns, rowText, rowsText, headerText, typeText, countText, tableText}
+use Rattle.writing.specs.SheetText.{sheetText}
 use Rattle.writing.proofs.TextLaws.{columns-length, row-length}
 
 append-cut : (s₁ s₂ t₁ t₂ : List ℕ) → s₁ ++ t₁ ≡ s₂ ++ t₂ → length s₁ ≡ length s₂ → (s₁ ≡ s₂) × (t₁ ≡ t₂)
@@ -85,14 +86,14 @@ module _ (a b c d : Bool) (e : _≡_ {A = ℕ} (cond a 49 (cond b 48 45)) (cond 
       go false false false true e h k = absurd (omega arith)
 
 module _ (n w u : ℕ) (hw : Rule n w) (hu : Rule n u) where
-  rule-by-columns : columns (inputByte w) n ≡ columns (inputByte u) n → columns (outputByte w) n ≡ columns (outputByte u) n → w ≡ u
-  unfolding inputByte outputByte
+  rule-by-columns : columns (bodyByte w) n ≡ columns (bodyByte u) n → columns (headByte w) n ≡ columns (headByte u) n → w ≡ u
+  unfolding bodyByte headByte
   rule-by-columns i o =
       same-word w u
-      (eqb-true (head w) (head u) (at-head (eqb (head w) (head w)) (eqb (head w) (head u)) (eq-eqb (head w) (head w) refl) (columns-same (outputByte w) (outputByte u) n o (head w) (hw .head-lt))))
-      (same-bits n (mustOn w) (mustOn u) (hw .mustOn-lt) (hu .mustOn-lt) (λ v l. column-on (on v (mustOn w)) (on v (mustOff w)) (on v (mustOn u)) (on v (mustOff u)) (columns-same (inputByte w) (inputByte u) n i v l)))
+      (eqb-true (head w) (head u) (at-head (eqb (head w) (head w)) (eqb (head w) (head u)) (eq-eqb (head w) (head w) refl) (columns-same (headByte w) (headByte u) n o (head w) (hw .head-lt))))
+      (same-bits n (mustOn w) (mustOn u) (hw .mustOn-lt) (hu .mustOn-lt) (λ v l. column-on (on v (mustOn w)) (on v (mustOff w)) (on v (mustOn u)) (on v (mustOff u)) (columns-same (bodyByte w) (bodyByte u) n i v l)))
       (same-bits n (mustOff w) (mustOff u) (hw .mustOff-lt) (hu .mustOff-lt)
-      (λ v l. column-off (on v (mustOn w)) (on v (mustOff w)) (on v (mustOn u)) (on v (mustOff u)) (columns-same (inputByte w) (inputByte u) n i v l) (apart-on (mustOn w) (mustOff w) v (hw .disjoint)) (apart-on (mustOn u) (mustOff u) v (hu .disjoint))))
+      (λ v l. column-off (on v (mustOn w)) (on v (mustOff w)) (on v (mustOn u)) (on v (mustOff u)) (columns-same (bodyByte w) (bodyByte u) n i v l) (apart-on (mustOn w) (mustOff w) v (hw .disjoint)) (apart-on (mustOn u) (mustOff u) v (hu .disjoint))))
     where
       at-head : (x y : Bool) → x ≡ true → _≡_ {A = ℕ} (cond x 49 48) (cond y 49 48) → y ≡ true
       at-head true true h e = refl
@@ -100,19 +101,19 @@ module _ (n w u : ℕ) (hw : Rule n w) (hu : Rule n u) where
       at-head false true h e = refl
       at-head false false h e = h
 
-  row-unique : rowText n w ≡ rowText n u → w ≡ u
+  row-unique : rowText bodyByte headByte n w ≡ rowText bodyByte headByte n u → w ≡ u
   unfolding rowText
   row-unique e =
-      let c = append-cut (columns (inputByte w) n) (columns (inputByte u) n) _ _ e (columns-length (inputByte w) n ∙ sym (columns-length (inputByte u) n)) in
-      rule-by-columns (c .0) (append-cancel-right (columns (outputByte w) n) (columns (outputByte u) n) (10 ∷ []) (tail-eq-of-cons-eq (c .1)))
+      let c = append-cut (columns (bodyByte w) n) (columns (bodyByte u) n) _ _ e (columns-length (bodyByte w) n ∙ sym (columns-length (bodyByte u) n)) in
+      rule-by-columns (c .0) (append-cancel-right (columns (headByte w) n) (columns (headByte u) n) (10 ∷ []) (tail-eq-of-cons-eq (c .1)))
 
-rows-unique : (n : ℕ) (ws us : List ℕ) → length ws ≡ length us → all (validRule n) ws ≡ true → all (validRule n) us ≡ true → rowsText n ws ≡ rowsText n us → ws ≡ us
+rows-unique : (n : ℕ) (ws us : List ℕ) → length ws ≡ length us → all (validRule n) ws ≡ true → all (validRule n) us ≡ true → rowsText bodyByte headByte n ws ≡ rowsText bodyByte headByte n us → ws ≡ us
 unfolding rowsText
 rows-unique n [] [] l h k e = refl
 rows-unique n [] (u ∷ us) l h k e = absurd (omega arith)
 rows-unique n (w ∷ ws) [] l h k e = absurd (omega arith)
 rows-unique n (w ∷ ws) (u ∷ us) l h k e =
-    let c = append-cut (rowText n w) (rowText n u) (rowsText n ws) (rowsText n us) e (row-length n w ∙ sym (row-length n u)) in
+    let c = append-cut (rowText bodyByte headByte n w) (rowText bodyByte headByte n u) (rowsText bodyByte headByte n ws) (rowsText bodyByte headByte n us) e (row-length bodyByte headByte n w ∙ sym (row-length bodyByte headByte n u)) in
     let f = row-unique n w u (rule-e n w (and-l (validRule n w) _ h)) (rule-e n u (and-l (validRule n u) _ k)) (c .0) in
     let r = rows-unique n ws us (omega arith) (and-r (validRule n w) _ h) (and-r (validRule n u) _ k) (c .1) in
     rw (f, r)
@@ -120,13 +121,13 @@ rows-unique n (w ∷ ws) (u ∷ us) l h k e =
 -- ---- the whole
 
 pub text-unique : (n m : ℕ) (ws us : List ℕ) → all (validRule n) ws ≡ true → all (validRule m) us ≡ true → sheetText n ws ≡ sheetText m us → (n ≡ m) × (ws ≡ us)
-unfolding sheetText
+unfolding sheetText tableText countText
 text-unique n m ws us h k e =
     let i = header-cut (46 ∷ 105 ∷ 32 ∷ []) n m _ _ e in
     let o = header-cut (46 ∷ 111 ∷ 32 ∷ []) n m _ _ (i .1) in
-    let p = header-cut (46 ∷ 112 ∷ 32 ∷ []) (length ws) (length us) _ _ (append-cancel-left (46 ∷ 116 ∷ 121 ∷ 112 ∷ 101 ∷ 32 ∷ 102 ∷ 10 ∷ []) _ _ (o .1)) in
-    let r : rowsText n ws ≡ rowsText m us = append-cancel-right (rowsText n ws) (rowsText m us) (46 ∷ 101 ∷ 10 ∷ []) (p .1) in
-    (i .0, rows-unique n ws us (p .0) h (rw (← i .0) at k) (r ∙ ap (λ (x : ℕ). rowsText x us) (sym (i .0))))
+    let p = header-cut (46 ∷ 112 ∷ 32 ∷ []) (length ws) (length us) _ _ (append-cancel-left (typeText (102 ∷ [])) _ _ (o .1)) in
+    let r : rowsText bodyByte headByte n ws ≡ rowsText bodyByte headByte m us = append-cancel-right (rowsText bodyByte headByte n ws) (rowsText bodyByte headByte m us) (46 ∷ 101 ∷ 10 ∷ []) (p .1) in
+    (i .0, rows-unique n ws us (p .0) h (rw (← i .0) at k) (r ∙ ap (λ (x : ℕ). rowsText bodyByte headByte x us) (sym (i .0))))
 
 -- two good sheets with one text are one sheet of one panel
 pub good-text-unique : (n m : ℕ) (ws us : List ℕ) → goodSheet n ws ≡ true → goodSheet m us ≡ true → sheetText n ws ≡ sheetText m us → (n ≡ m) × (ws ≡ us)

@@ -1,4 +1,4 @@
--- Laws of the text of a sheet: its parts one behind the other, and its length before it is written.
+-- Laws of the text of a table: its parts one behind the other, and its length before it is written.
 use Prim.Native.Nat.{ℕ, zero, suc, _+_, _-_, _*_, _/_, _≤_, _<_}
 use mathlib.Core.Path.{_≡_, refl, sym, _∙_, ap}
 use mathlib.Core.List.{List, [], _∷_, _++_, append-nil, append-assoc}
@@ -11,9 +11,15 @@ use lib.ListN.{length, getD, take, drop, length-append, take-append-drop}
 use lib.Seq.{take-suc}
 use borrow.Author.Tests.{le-leb, lt-leb, leb-true, leb-false}
 use Rattle.fields.specs.Decimals.{decimal}
-use Rattle.writing.specs.SheetText.{columns, inputByte, outputByte, rowText, rowsText, headerText, sheetText}
-use Rattle.writing.specs.Writing.{Put, textLength}
-use Rattle.writing.proofs.PutLaws.{put-length, put-then}
+use Rattle.writing.specs.TableText.{columnByte, columns, rowText, rowsText, headerText, typeText, countText, tableText}
+use Rattle.writing.specs.SheetText.{sheetTable, sheetWord, sheetText}
+use Rattle.writing.specs.Writing.{Put, countLength, textLength}
+use Rattle.writing.specs.declared.Table.{Table}
+use Rattle.writing.proofs.PutLaws.{put-none, put-length, put-then}
+
+-- a line of a key and what stands behind it
+line-length : (key s : List ℕ) → length (key ++ (s ++ 10 ∷ [])) ≡ length key + (length s + 1)
+line-length key s = length-append key (s ++ 10 ∷ []) ∙ ap (λ (k : ℕ). length key + k) (length-append s (10 ∷ []))
 
 -- ---- columns
 
@@ -33,90 +39,123 @@ put-column f d at n v d′ e b d″ k h l p q r =
 
 -- ---- rows
 
-pub row-length : (n w : ℕ) → length (rowText n w) ≡ 2 * n + 2
-unfolding rowText
-row-length n w =
-    length-append (columns (inputByte w) n) (32 ∷ (columns (outputByte w) n ++ 10 ∷ []))
-    ∙ omega (arith, columns-length (inputByte w) n, columns-length (outputByte w) n, length-append (columns (outputByte w) n) (10 ∷ []))
+module _ (ins outs : ℕ → ℕ → ℕ) (n : ℕ) where
+  pub row-length : (w : ℕ) → length (rowText ins outs n w) ≡ 2 * n + 2
+  unfolding rowText
+  row-length w =
+      length-append (columns (ins w) n) (32 ∷ (columns (outs w) n ++ 10 ∷ []))
+      ∙ omega (arith, columns-length (ins w) n, columns-length (outs w) n, length-append (columns (outs w) n) (10 ∷ []))
 
-pub rows-length : (n : ℕ) (ws : List ℕ) → length (rowsText n ws) ≡ length ws * (2 * n + 2)
-unfolding rowsText
-rows-length n [] = omega arith
-rows-length n (w ∷ ws) =
-    length-append (rowText n w) (rowsText n ws) ∙ omega (arith, row-length n w, rows-length n ws, suc-mul (length ws) (2 * n + 2))
+  pub rows-length : (ws : List ℕ) → length (rowsText ins outs n ws) ≡ length ws * (2 * n + 2)
+  unfolding rowsText
+  rows-length [] = omega arith
+  rows-length (w ∷ ws) =
+      length-append (rowText ins outs n w) (rowsText ins outs n ws) ∙ omega (arith, row-length w, rows-length ws, suc-mul (length ws) (2 * n + 2))
 
-rows-append : (n : ℕ) (ws us : List ℕ) → rowsText n (ws ++ us) ≡ rowsText n ws ++ rowsText n us
-unfolding rowsText
-rows-append n [] us = refl
-rows-append n (w ∷ ws) us = rw (rows-append n ws us) (sym (append-assoc (rowText n w) (rowsText n ws) (rowsText n us)))
+  rows-append : (ws us : List ℕ) → rowsText ins outs n (ws ++ us) ≡ rowsText ins outs n ws ++ rowsText ins outs n us
+  unfolding rowsText
+  rows-append [] us = refl
+  rows-append (w ∷ ws) us = rw (rows-append ws us) (sym (append-assoc (rowText ins outs n w) (rowsText ins outs n ws) (rowsText ins outs n us)))
 
-rows-one : (n w : ℕ) → rowsText n (w ∷ []) ≡ rowText n w
-unfolding rowsText
-rows-one n w = append-nil (rowText n w)
+  rows-one : (w : ℕ) → rowsText ins outs n (w ∷ []) ≡ rowText ins outs n w
+  unfolding rowsText
+  rows-one w = append-nil (rowText ins outs n w)
 
-module _ (n : ℕ) (ws : List ℕ) (i : ℕ) (l : i < length ws) where
-  rows-next : rowsText n (take (i + 1) ws) ≡ rowsText n (take i ws) ++ rowText n (getD ws i 0)
-  rows-next = rw (add-one i, take-suc ws i 0 l, rows-append n (take i ws) (getD ws i 0 ∷ []), rows-one n (getD ws i 0))
+  module _ (ws : List ℕ) (i : ℕ) (l : i < length ws) where
+    rows-next : rowsText ins outs n (take (i + 1) ws) ≡ rowsText ins outs n (take i ws) ++ rowText ins outs n (getD ws i 0)
+    rows-next = rw (add-one i, take-suc ws i 0 l, rows-append (take i ws) (getD ws i 0 ∷ []), rows-one (getD ws i 0))
 
-  -- the rows before a row, and the row, are not longer than all
-  pub rows-room : length (rowsText n (take i ws)) + length (rowText n (getD ws i 0)) ≤ length (rowsText n ws)
-  rows-room =
-      omega (
-        arith,
-        length-append (rowsText n (take i ws)) (rowText n (getD ws i 0)),
-        ap length rows-next,
-        length-append (rowsText n (take (i + 1) ws)) (rowsText n (drop (i + 1) ws)),
-        ap length (sym (rows-append n (take (i + 1) ws) (drop (i + 1) ws)) ∙ ap (rowsText n) (take-append-drop (i + 1) ws)),
-      )
+    -- the rows before a row, and the row, are not longer than all
+    pub rows-room : length (rowsText ins outs n (take i ws)) + length (rowText ins outs n (getD ws i 0)) ≤ length (rowsText ins outs n ws)
+    rows-room =
+        omega (
+          arith,
+          length-append (rowsText ins outs n (take i ws)) (rowText ins outs n (getD ws i 0)),
+          ap length rows-next,
+          length-append (rowsText ins outs n (take (i + 1) ws)) (rowsText ins outs n (drop (i + 1) ws)),
+          ap length (sym (rows-append (take (i + 1) ws) (drop (i + 1) ws)) ∙ ap (rowsText ins outs n) (take-append-drop (i + 1) ws)),
+        )
 
-  pub put-row-next : (d : List ℕ) (at : ℕ) (d′ : List ℕ) (e : ℕ) (d″ : List ℕ) (k : ℕ) → at + length (rowsText n ws) ≤ length d
-      → Put d at (rowsText n (take i ws)) d′ e → Put d′ e (rowText n (getD ws i 0)) d″ k → Put d at (rowsText n (take (i + 1) ws)) d″ k
-  put-row-next d at d′ e d″ k h p q =
-      rw rows-next (put-then d at (rowsText n (take i ws)) d′ e (rowText n (getD ws i 0)) d″ k (omega (arith, rows-room)) p q)
+    pub put-row-next : (d : List ℕ) (at : ℕ) (d′ : List ℕ) (e : ℕ) (d″ : List ℕ) (k : ℕ) → at + length (rowsText ins outs n ws) ≤ length d
+        → Put d at (rowsText ins outs n (take i ws)) d′ e → Put d′ e (rowText ins outs n (getD ws i 0)) d″ k → Put d at (rowsText ins outs n (take (i + 1) ws)) d″ k
+    put-row-next d at d′ e d″ k h p q =
+        rw rows-next (put-then d at (rowsText ins outs n (take i ws)) d′ e (rowText ins outs n (getD ws i 0)) d″ k (omega (arith, rows-room)) p q)
 
--- ---- the whole
+-- ---- headers
 
 pub header-length : (key : List ℕ) (v : ℕ) → length (headerText key v) ≡ length key + (length (decimal v) + 1)
 unfolding headerText
-header-length key v = length-append key (decimal v ++ 10 ∷ []) ∙ ap (λ (k : ℕ). length key + k) (length-append (decimal v) (10 ∷ []))
+header-length key v = line-length key (decimal v)
 
-pub sheet-parts : (n : ℕ) (ws : List ℕ) → length (sheetText n ws)
-    ≡ length (headerText (46 ∷ 105 ∷ 32 ∷ []) n) + (length (headerText (46 ∷ 111 ∷ 32 ∷ []) n) + (8 + (length (headerText (46 ∷ 112 ∷ 32 ∷ []) (length ws)) + (length (rowsText n ws) + 3))))
-unfolding sheetText
-sheet-parts n ws = simp length-append (omega arith)
+pub type-length : (word : List ℕ) → length (typeText word) ≡ 7 + length word
+unfolding typeText
+type-length word = line-length (46 ∷ 116 ∷ 121 ∷ 112 ∷ 101 ∷ 32 ∷ []) word ∙ omega arith
+
+pub count-length : (counted : Bool) (k : ℕ) → length (countText counted k) ≡ countLength counted k
+unfolding countText countLength
+count-length true k = header-length (46 ∷ 112 ∷ 32 ∷ []) k ∙ omega arith
+count-length false k = refl
+
+pub count-there : (counted : Bool) (k : ℕ) → counted ≡ true → length (countText counted k) ≡ length (headerText (46 ∷ 112 ∷ 32 ∷ []) k)
+unfolding countText
+count-there counted k e = rw e
+
+pub put-count-there : (d : List ℕ) (at : ℕ) (counted : Bool) (k : ℕ) (d′ : List ℕ) (e : ℕ) → counted ≡ true → Put d at (headerText (46 ∷ 112 ∷ 32 ∷ []) k) d′ e → Put d at (countText counted k) d′ e
+unfolding countText
+put-count-there d at counted k d′ e c p = rw c p
+
+pub put-count-none : (d : List ℕ) (at : ℕ) (counted : Bool) (k : ℕ) → counted ≡ false → Put d at (countText counted k) d at
+unfolding countText
+put-count-none d at counted k c = rw c (put-none d at)
+
+-- ---- the whole
+
+pub table-parts : (t : Table) (word : List ℕ) (n : ℕ) (ws : List ℕ) → length (tableText t word n ws)
+    ≡ length (headerText (46 ∷ 105 ∷ 32 ∷ []) n) + (length (headerText (46 ∷ 111 ∷ 32 ∷ []) n) + (length (typeText word) + (length (countText (t .counted) (length ws)) + (length (rowsText (columnByte (t .ins)) (columnByte (t .outs)) n ws) + 3))))
+unfolding tableText
+table-parts t word n ws = simp length-append (omega arith)
 
 -- three, four and six things one behind the other
 module _ (d : List ℕ) (at : ℕ) where
+  put-line : (key s d₁ : List ℕ) (a : ℕ) (d₂ : List ℕ) (b : ℕ) (d₃ : List ℕ) (c : ℕ) → at + length (key ++ (s ++ 10 ∷ [])) ≤ length d
+      → Put d at key d₁ a → Put d₁ a s d₂ b → Put d₂ b (10 ∷ []) d₃ c → Put d at (key ++ (s ++ 10 ∷ [])) d₃ c
+  put-line key s d₁ a d₂ b d₃ c h p q r =
+      let l = line-length key s in
+      put-then d at key d₁ a (s ++ 10 ∷ []) d₃ c (omega arith) p
+      (put-then d₁ a s d₂ b (10 ∷ []) d₃ c (omega (arith, p .behind, put-length d at key d₁ a (omega arith) p)) q r)
+
   pub put-header-text : (key : List ℕ) (v : ℕ) (d₁ : List ℕ) (a : ℕ) (d₂ : List ℕ) (b : ℕ) (d₃ : List ℕ) (c : ℕ) → at + length (headerText key v) ≤ length d
       → Put d at key d₁ a → Put d₁ a (decimal v) d₂ b → Put d₂ b (10 ∷ []) d₃ c → Put d at (headerText key v) d₃ c
   unfolding headerText
-  put-header-text key v d₁ a d₂ b d₃ c h p q r =
-      let l = header-length key v in
-      put-then d at key d₁ a (decimal v ++ 10 ∷ []) d₃ c (omega arith) p
-      (put-then d₁ a (decimal v) d₂ b (10 ∷ []) d₃ c (omega (arith, p .behind, put-length d at key d₁ a (omega arith) p)) q r)
+  put-header-text key v = put-line key (decimal v)
 
-  pub put-row-text : (n w : ℕ) (d₁ : List ℕ) (a : ℕ) (d₂ : List ℕ) (b : ℕ) (d₃ : List ℕ) (c : ℕ) (d₄ : List ℕ) (e : ℕ) → at + length (rowText n w) ≤ length d
-      → Put d at (columns (inputByte w) n) d₁ a → Put d₁ a (32 ∷ []) d₂ b → Put d₂ b (columns (outputByte w) n) d₃ c → Put d₃ c (10 ∷ []) d₄ e
-      → Put d at (rowText n w) d₄ e
+  pub put-type-text : (word d₁ : List ℕ) (a : ℕ) (d₂ : List ℕ) (b : ℕ) (d₃ : List ℕ) (c : ℕ) → at + length (typeText word) ≤ length d
+      → Put d at (46 ∷ 116 ∷ 121 ∷ 112 ∷ 101 ∷ 32 ∷ []) d₁ a → Put d₁ a word d₂ b → Put d₂ b (10 ∷ []) d₃ c → Put d at (typeText word) d₃ c
+  unfolding typeText
+  put-type-text word = put-line (46 ∷ 116 ∷ 121 ∷ 112 ∷ 101 ∷ 32 ∷ []) word
+
+  pub put-row-text : (ins outs : ℕ → ℕ → ℕ) (n w : ℕ) (d₁ : List ℕ) (a : ℕ) (d₂ : List ℕ) (b : ℕ) (d₃ : List ℕ) (c : ℕ) (d₄ : List ℕ) (e : ℕ) → at + length (rowText ins outs n w) ≤ length d
+      → Put d at (columns (ins w) n) d₁ a → Put d₁ a (32 ∷ []) d₂ b → Put d₂ b (columns (outs w) n) d₃ c → Put d₃ c (10 ∷ []) d₄ e
+      → Put d at (rowText ins outs n w) d₄ e
   unfolding rowText
-  put-row-text n w d₁ a d₂ b d₃ c d₄ e h p q r s =
-      let l = row-length n w in
-      let i = columns-length (inputByte w) n in
-      let o = columns-length (outputByte w) n in
-      let l₁ = put-length d at (columns (inputByte w) n) d₁ a (omega arith) p in
+  put-row-text ins outs n w d₁ a d₂ b d₃ c d₄ e h p q r s =
+      let l = row-length ins outs n w in
+      let i = columns-length (ins w) n in
+      let o = columns-length (outs w) n in
+      let l₁ = put-length d at (columns (ins w) n) d₁ a (omega arith) p in
       let l₂ = put-length d₁ a (32 ∷ []) d₂ b (omega (arith, p .behind)) q in
-      put-then d at (columns (inputByte w) n) d₁ a (32 ∷ (columns (outputByte w) n ++ 10 ∷ [])) d₄ e (omega arith) p
-      (put-then d₁ a (32 ∷ []) d₂ b (columns (outputByte w) n ++ 10 ∷ []) d₄ e (omega (arith, p .behind)) q
-      (put-then d₂ b (columns (outputByte w) n) d₃ c (10 ∷ []) d₄ e (omega (arith, p .behind, q .behind)) r s))
+      put-then d at (columns (ins w) n) d₁ a (32 ∷ (columns (outs w) n ++ 10 ∷ [])) d₄ e (omega arith) p
+      (put-then d₁ a (32 ∷ []) d₂ b (columns (outs w) n ++ 10 ∷ []) d₄ e (omega (arith, p .behind)) q
+      (put-then d₂ b (columns (outs w) n) d₃ c (10 ∷ []) d₄ e (omega (arith, p .behind, q .behind)) r s))
 
-  pub put-sheet-text : (n : ℕ) (ws d₁ : List ℕ) (a : ℕ) (d₂ : List ℕ) (b : ℕ) (d₃ : List ℕ) (c : ℕ) (d₄ : List ℕ) (e : ℕ) (d₅ : List ℕ) (f : ℕ) (d₆ : List ℕ) (g : ℕ)
-      → at + length (sheetText n ws) ≤ length d
+  pub put-table-text : (t : Table) (word : List ℕ) (n : ℕ) (ws d₁ : List ℕ) (a : ℕ) (d₂ : List ℕ) (b : ℕ) (d₃ : List ℕ) (c : ℕ) (d₄ : List ℕ) (e : ℕ) (d₅ : List ℕ) (f : ℕ) (d₆ : List ℕ) (g : ℕ)
+      → at + length (tableText t word n ws) ≤ length d
       → Put d at (headerText (46 ∷ 105 ∷ 32 ∷ []) n) d₁ a → Put d₁ a (headerText (46 ∷ 111 ∷ 32 ∷ []) n) d₂ b
-      → Put d₂ b (46 ∷ 116 ∷ 121 ∷ 112 ∷ 101 ∷ 32 ∷ 102 ∷ 10 ∷ []) d₃ c → Put d₃ c (headerText (46 ∷ 112 ∷ 32 ∷ []) (length ws)) d₄ e
-      → Put d₄ e (rowsText n ws) d₅ f → Put d₅ f (46 ∷ 101 ∷ 10 ∷ []) d₆ g → Put d at (sheetText n ws) d₆ g
-  unfolding sheetText
-  put-sheet-text n ws d₁ a d₂ b d₃ c d₄ e d₅ f d₆ g h p q r s t u =
-      let l = sheet-parts n ws in
+      → Put d₂ b (typeText word) d₃ c → Put d₃ c (countText (t .counted) (length ws)) d₄ e
+      → Put d₄ e (rowsText (columnByte (t .ins)) (columnByte (t .outs)) n ws) d₅ f → Put d₅ f (46 ∷ 101 ∷ 10 ∷ []) d₆ g → Put d at (tableText t word n ws) d₆ g
+  unfolding tableText
+  put-table-text tb word n ws d₁ a d₂ b d₃ c d₄ e d₅ f d₆ g h p q r s t u =
+      let l = table-parts tb word n ws in
       let l₁ = put-length d at _ d₁ a (omega arith) p in
       let l₂ = put-length d₁ a _ d₂ b (omega (arith, p .behind)) q in
       let l₃ = put-length d₂ b _ d₃ c (omega (arith, p .behind, q .behind)) r in
@@ -128,11 +167,22 @@ module _ (d : List ℕ) (at : ℕ) where
       (put-then d₄ e _ d₅ f _ d₆ g (omega (arith, p .behind, q .behind, r .behind, s .behind)) t u))))
 
 -- the length of the text is known before it is written
-pub sheet-length : (n : ℕ) (ws : List ℕ) → length (sheetText n ws) ≡ textLength n (length ws)
+pub table-length : (t : Table) (word : List ℕ) (n : ℕ) (ws : List ℕ) → length (tableText t word n ws) ≡ textLength t word n (length ws)
 unfolding textLength
-sheet-length n ws =
-    sheet-parts n ws
-    ∙ omega (arith, header-length (46 ∷ 105 ∷ 32 ∷ []) n, header-length (46 ∷ 111 ∷ 32 ∷ []) n, header-length (46 ∷ 112 ∷ 32 ∷ []) (length ws), rows-length n ws)
+table-length t word n ws =
+    table-parts t word n ws
+    ∙ omega (
+      arith,
+      header-length (46 ∷ 105 ∷ 32 ∷ []) n,
+      header-length (46 ∷ 111 ∷ 32 ∷ []) n,
+      type-length word,
+      count-length (t .counted) (length ws),
+      rows-length (columnByte (t .ins)) (columnByte (t .outs)) n ws,
+    )
+
+pub sheet-length : (n : ℕ) (ws : List ℕ) → length (sheetText n ws) ≡ textLength sheetTable sheetWord n (length ws)
+unfolding sheetText
+sheet-length n ws = table-length sheetTable sheetWord n ws
 
 -- rows fit behind the rest exactly if there are no more than the rest leaves room for
 pub rows-fit : (head count row room : ℕ) → 0 < row → head ≤ room → leb count ((room - head) / row) ≡ leb (head + count * row) room

@@ -13,21 +13,31 @@ use Rattle.answers.specs.Answers.{refuse, wordsIf}
 use Rattle.fields.specs.Decimals.{decimal}
 use Rattle.panel.specs.Masks.{panelSize}
 use Rattle.prime.specs.Sheets.{goodSheet}
-use Rattle.writing.specs.SheetText.{sheetText}
-use Rattle.writing.specs.Writing.{Put, textLength, writeCode, withLength, lengthIf, Writes}
+use Rattle.writing.specs.TableText.{tableText}
+use Rattle.writing.specs.SheetText.{sheetTable, sheetWord, sheetText}
+use Rattle.writing.specs.Writing.{Put, countLength, textLength, writeCode, withLength, lengthIf, Writes}
+use Rattle.writing.specs.declared.Table.{Table}
 use Rattle.writing.specs.declared.WriteAnswer.{WriteAnswer}
 use Rattle.writing.proofs.TextLaws.{sheet-length, rows-fit}
 
--- ---- whether the text fits, over the number of digits of its two numbers
+-- ---- whether the text fits, over the digits of its size and the length of its line `.p`
 
-module _ (n count room a b : ℕ) (ha : a ≡ length (decimal n)) (hb : b ≡ length (decimal count)) where
-  pub fits-not : room < 23 + 2 * a + b → false ≡ leb (textLength n count) room
+module _ (t : Table) (word : List ℕ) (n count room a b : ℕ) (ha : a ≡ length (decimal n)) (hb : b ≡ countLength (t .counted) count) where
+  pub fits-not : room < 18 + length word + 2 * a + b → false ≡ leb (textLength t word n count) room
   unfolding textLength
   fits-not h = sym (lt-leb _ room (omega arith))
 
-  pub fits-rows : 23 + 2 * a + b ≤ room → leb count ((room - (23 + 2 * a + b)) / (2 * n + 2)) ≡ leb (textLength n count) room
+  pub fits-rows : 18 + length word + 2 * a + b ≤ room → leb count ((room - (18 + length word + 2 * a + b)) / (2 * n + 2)) ≡ leb (textLength t word n count) room
   unfolding textLength
-  fits-rows h = rw (← ha, ← hb) (rows-fit (23 + 2 * a + b) count (2 * n + 2) room (omega arith) h)
+  fits-rows h = rw (← ha, ← hb) (rows-fit (18 + length word + 2 * a + b) count (2 * n + 2) room (omega arith) h)
+
+pub count-digits : (counted : Bool) (k d : ℕ) → d ≡ length (decimal k) → counted ≡ true → 4 + d ≡ countLength counted k
+unfolding countLength
+count-digits counted k d e c = rw (c, e)
+
+pub count-none : (counted : Bool) (k : ℕ) → counted ≡ false → 0 ≡ countLength counted k
+unfolding countLength
+count-none counted k c = rw c
 
 -- ---- the codes in order
 
@@ -51,16 +61,20 @@ module _ (n : ℕ) (sheet : List ℕ) (count room : ℕ) where
       code-5 g = rw (p, le-ltb (length sheet) count c, g)
 
       module _ (g : goodSheet n (take count sheet) ≡ true) where
-        long : length (sheetText n (take count sheet)) ≡ textLength n count
-        long = sheet-length n (take count sheet) ∙ ap (textLength n) (length-take-le count sheet c)
+        long : length (sheetText n (take count sheet)) ≡ textLength sheetTable sheetWord n count
+        long = sheet-length n (take count sheet) ∙ ap (textLength sheetTable sheetWord n) (length-take-le count sheet c)
 
-        pub code-12 : leb (textLength n count) room ≡ false → 12 ≡ writeCode n sheet count room
-        unfolding writeCode
-        code-12 f = rw (p, le-ltb (length sheet) count c, g, long, lt-ltb room (textLength n count) (leb-false _ room f))
+        module _ (t : Table) (ht : t ≡ sheetTable) where
+          fits-is : leb (textLength sheetTable sheetWord n count) room ≡ leb (textLength t sheetWord n count) room
+          fits-is = ap (λ (x : Table). leb (textLength x sheetWord n count) room) (sym ht)
 
-        pub code-0 : leb (textLength n count) room ≡ true → 0 ≡ writeCode n sheet count room
-        unfolding writeCode
-        code-0 f = rw (p, le-ltb (length sheet) count c, g, long, le-ltb room (textLength n count) (leb-true _ room f))
+          pub code-12 : leb (textLength t sheetWord n count) room ≡ false → 12 ≡ writeCode n sheet count room
+          unfolding writeCode
+          code-12 f = rw (p, le-ltb (length sheet) count c, g, long, lt-ltb room (textLength sheetTable sheetWord n count) (leb-false _ room (fits-is ∙ f)))
+
+          pub code-0 : leb (textLength t sheetWord n count) room ≡ true → 0 ≡ writeCode n sheet count room
+          unfolding writeCode
+          code-0 f = rw (p, le-ltb (length sheet) count c, g, long, le-ltb room (textLength sheetTable sheetWord n count) (leb-true _ room (fits-is ∙ f)))
 
 -- code 0: the count is in the slice, and the text in the room
 pub record Ready (n : ℕ) (sheet : List ℕ) (count room : ℕ) : Type 0 where
@@ -80,6 +94,11 @@ ready n sheet count room h =
     go true false hc true true hf z = absurd (omega arith)
     go true false hc true false hf z = record { counted = ltb-false (length sheet) count hc; fits = ltb-false room _ hf }
 
+-- the text of a sheet is that of its table
+pub as-table : (t : Table) → t ≡ sheetTable → (n : ℕ) (ws : List ℕ) → tableText t sheetWord n ws ≡ sheetText n ws
+unfolding sheetText
+as-table t h n ws = ap (λ (x : Table). tableText x sheetWord n ws) h
+
 -- ---- what `write_sheet` leaves, over what its calls answer
 
 length-refused : (code len : ℕ) → (code ≡ 0 → ⊥) → lengthIf code len ≡ 0
@@ -98,8 +117,9 @@ module _ (n : ℕ) (sheet : List ℕ) (count : ℕ) (before : List ℕ) (code : 
         bytes = rw (← h) (sym (bytes-refused code _ before z));
       }
 
-  pub write-done : (after : List ℕ) (e : ℕ) → code ≡ 0 → Put before 0 (sheetText n (take count sheet)) after e → r ≡ withLength 0 e → Writes n sheet count before after r
-  write-done after e z p a =
+  pub write-done : (t : Table) → t ≡ sheetTable → (after : List ℕ) (e : ℕ) → code ≡ 0 → Put before 0 (tableText t sheetWord n (take count sheet)) after e → r ≡ withLength 0 e → Writes n sheet count before after r
+  write-done t ht after e z q a =
+      let p : Put before 0 (sheetText n (take count sheet)) after e = rw (← as-table t ht n (take count sheet)) q in
       let l : e ≡ length (sheetText n (take count sheet)) = omega (arith, p .behind) in
       record { answer = rw (← h, z) (a ∙ ap (λ (k : ℕ). withLength 0 k) l); bytes = rw (← h, z) (p .bytes) }
 

@@ -1,2 +1,3 @@
+pub mod TableText
 pub mod SheetText
 pub mod Writing

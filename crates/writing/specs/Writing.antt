@@ -2,7 +2,7 @@
 use Prim.Native.Nat.{ℕ, zero, suc, _+_, _*_}
 use mathlib.Core.Path.{_≡_}
 use mathlib.Core.List.{List, _++_}
-use mathlib.Core.Bool.{not}
+use mathlib.Core.Bool.{Bool, cond, not}
 use lib.Dec.{ltb}
 use lib.ListN.{length, take, drop}
 use Rattle.answers.specs.Answers.{refuse, plain, wordsIf}
@@ -10,6 +10,7 @@ use Rattle.fields.specs.Decimals.{decimal}
 use Rattle.panel.specs.Masks.{panelSize}
 use Rattle.prime.specs.Sheets.{goodSheet}
 use Rattle.writing.specs.SheetText.{sheetText}
+use Rattle.writing.specs.declared.Table.{Table}
 use Rattle.writing.specs.declared.WriteAnswer.{WriteAnswer}
 
 -- the bytes d with s written at a place; those after it are unchanged
@@ -21,9 +22,13 @@ pub record Put (d : List ℕ) (at : ℕ) (s d′ : List ℕ) (e : ℕ) : Type 0 
   pub bytes : d′ ≡ written d at s
   pub behind : e ≡ at + length s
 
--- how long the text of a sheet of k rules is, before it is written
-unfoldable pub textLength : ℕ → ℕ → ℕ
-textLength n k = 23 + 2 * length (decimal n) + length (decimal k) + k * (2 * n + 2)
+-- how long a line `.p k` is, where there is one
+unfoldable pub countLength : Bool → ℕ → ℕ
+countLength counted k = cond counted (4 + length (decimal k)) 0
+
+-- how long the text of a table of k rows is, before it is written
+unfoldable pub textLength : Table → List ℕ → ℕ → ℕ → ℕ
+textLength t word n k = 18 + length word + 2 * length (decimal n) + countLength (t .counted) k + k * (2 * n + 2)
 
 -- 2, 3, 5 and 12, in this order; else 0
 unfoldable pub writeCode : ℕ → List ℕ → ℕ → ℕ → ℕ

@@ -1,4 +1,4 @@
-// Writing a sheet as text: the codes in order, then the bytes.
+// Writing a table of words as text, and a sheet as such a table: the codes in order, then the bytes.
 use answers::Answer;
 ghost use mathlib.Core.Path.{_≡_};
 ghost use mathlib.Core.List.{_∷_, []};
@@ -6,8 +6,9 @@ ghost use Prim.Native.Nat.{_+_, _^_, _≤_, _<_};
 ghost use lib.Dec.{leb};
 ghost use lib.ListN.{length};
 ghost use Rattle.fields.specs.Decimals.{decimal};
-ghost use Rattle.writing.specs.SheetText.{inputByte, outputByte, columnByte, columns, rowText, rowsText, headerText, sheetText};
-ghost use Rattle.writing.specs.Writing.{Put, textLength, writeCode, withLength, Writes};
+ghost use Rattle.writing.specs.TableText.{bodyByte, headByte, columnByte, columns, rowText, rowsText, headerText, typeText, countText, tableText};
+ghost use Rattle.writing.specs.SheetText.{sheetTable};
+ghost use Rattle.writing.specs.Writing.{Put, countLength, textLength, writeCode, withLength, Writes};
 
 // The common numbers, and the length of the text.
 pub struct WriteAnswer {
@@ -15,10 +16,17 @@ pub struct WriteAnswer {
     pub length: usize,
 }
 
-// The two sides of a row.
-pub enum Side {
-    Inputs,
-    Outputs,
+// What a column says of a word: of a rule its body or its head.
+pub enum Column {
+    Body,
+    Head,
+}
+
+// How a table of words is written: whether `.p` stands there, and what the input and the output columns say of a word.
+pub struct Table {
+    pub counted: bool,
+    pub ins: Column,
+    pub outs: Column,
 }
 
 // Each `put` writes at a place, and returns the place behind what it wrote.
@@ -72,9 +80,30 @@ pub fn put_header(out: &mut [u8], at: usize, key: &[u8], v: usize) -> usize
     put_byte(out, b, 10)
 }
 
+// The line `.type` with its word.
+fn put_type(out: &mut [u8], at: usize, word: &[u8]) -> usize
+    requires { ⌜ at + length (typeText (now word)) ≤ length (now out) ⌝ }
+    ensures { λ r. ⌜ Put (now (out .entry)) at (typeText (now (word .entry))) (now (out .exit)) r ⌝ }
+{
+    let a = put_bytes(out, at, b".type ");
+    let b = put_bytes(out, a, word);
+    put_byte(out, b, 10)
+}
+
+// The line `.p`, where the table has it.
+fn put_count(out: &mut [u8], at: usize, counted: bool, k: usize) -> usize
+    requires { ⌜ at + length (countText counted k) ≤ length (now out) ⌝ }
+    ensures { λ r. ⌜ Put (now (out .entry)) at (countText counted k) (now (out .exit)) r ⌝ }
+{
+    if counted {
+        return put_header(out, at, b".p ", k);
+    }
+    at
+}
+
 // What stands in the column of relay v for the body of the rule w.
-fn input_byte(w: u32, v: u32) -> u8
-    ensures { λ r. ⌜ r ≡ inputByte w v ⌝ }
+fn body_byte(w: u32, v: u32) -> u8
+    ensures { λ r. ⌜ r ≡ bodyByte w v ⌝ }
 {
     if panel::is_on(v, panel::must_on(w)) {
         return 49;
@@ -85,68 +114,71 @@ fn input_byte(w: u32, v: u32) -> u8
     45
 }
 
-fn output_byte(w: u32, v: u32) -> u8
-    ensures { λ r. ⌜ r ≡ outputByte w v ⌝ }
+fn head_byte(w: u32, v: u32) -> u8
+    ensures { λ r. ⌜ r ≡ headByte w v ⌝ }
 {
     if v == panel::head_of(w) { 49 } else { 48 }
 }
 
-fn column_byte(s: Side, w: u32, v: u32) -> u8
-    ensures { λ r. ⌜ r ≡ columnByte s w v ⌝ }
+fn column_byte(c: Column, w: u32, v: u32) -> u8
+    ensures { λ r. ⌜ r ≡ columnByte c w v ⌝ }
 {
-    match s {
-        Side::Inputs => input_byte(w, v),
-        Side::Outputs => output_byte(w, v),
+    match c {
+        Column::Body => body_byte(w, v),
+        Column::Head => head_byte(w, v),
     }
 }
 
 // One side of a row, from relay 0 on.
-fn put_columns(out: &mut [u8], at: usize, n: u32, w: u32, s: Side) -> usize
+fn put_columns(out: &mut [u8], at: usize, n: u32, w: u32, c: Column) -> usize
     requires { ⌜ at + n ≤ length (now out) ⌝ }
-    ensures { λ r. ⌜ Put (now (out .entry)) at (columns (columnByte s w) n) (now (out .exit)) r ⌝ }
+    ensures { λ r. ⌜ Put (now (out .entry)) at (columns (columnByte c w) n) (now (out .exit)) r ⌝ }
 {
     let mut e = at;
     let mut v: u32 = 0;
     while v < n {
-        e = put_byte(out, e, column_byte(s, w, v));
+        e = put_byte(out, e, column_byte(c, w, v));
         v += 1;
     }
     e
 }
 
-fn put_row(out: &mut [u8], at: usize, n: u32, w: u32) -> usize
-    requires { ⌜ at + length (rowText n w) ≤ length (now out) ⌝ }
-    ensures { λ r. ⌜ Put (now (out .entry)) at (rowText n w) (now (out .exit)) r ⌝ }
+fn put_row(out: &mut [u8], at: usize, n: u32, w: u32, ins: Column, outs: Column) -> usize
+    requires { ⌜ at + length (rowText (columnByte ins) (columnByte outs) n w) ≤ length (now out) ⌝ }
+    ensures { λ r. ⌜ Put (now (out .entry)) at (rowText (columnByte ins) (columnByte outs) n w) (now (out .exit)) r ⌝ }
 {
-    let a = put_columns(out, at, n, w, Side::Inputs);
+    let a = put_columns(out, at, n, w, ins);
     let b = put_byte(out, a, 32);
-    let c = put_columns(out, b, n, w, Side::Outputs);
+    let c = put_columns(out, b, n, w, outs);
     put_byte(out, c, 10)
 }
 
-fn put_rows(out: &mut [u8], at: usize, n: u32, sheet: &[u32]) -> usize
-    requires { ⌜ at + length (rowsText n (now sheet)) ≤ length (now out) ⌝ }
-    ensures { λ r. ⌜ Put (now (out .entry)) at (rowsText n (now (sheet .entry))) (now (out .exit)) r ⌝ }
+fn put_rows(out: &mut [u8], at: usize, n: u32, words: &[u32], ins: Column, outs: Column) -> usize
+    requires { ⌜ at + length (rowsText (columnByte ins) (columnByte outs) n (now words)) ≤ length (now out) ⌝ }
+    ensures { λ r. ⌜ Put (now (out .entry)) at (rowsText (columnByte ins) (columnByte outs) n (now (words .entry))) (now (out .exit)) r ⌝ }
 {
     let mut e = at;
     let mut i = 0;
-    while i < sheet.len() {
-        e = put_row(out, e, n, sheet[i]);
+    while i < words.len() {
+        e = put_row(out, e, n, words[i], ins, outs);
         i += 1;
     }
     e
 }
 
-// The text of a sheet, at the start of `out`; returns its length.
-fn put_sheet(n: u32, sheet: &[u32], out: &mut [u8]) -> usize
-    requires { ⌜ length (sheetText n (now sheet)) ≤ length (now out) ⌝ }
-    ensures { λ r. ⌜ Put (now (out .entry)) 0 (sheetText n (now (sheet .entry))) (now (out .exit)) r ⌝ }
+// The text of a table, at the start of `out`; returns its length.
+fn put_table(t: Table, word: &[u8], n: u32, words: &[u32], out: &mut [u8]) -> usize
+    requires { ⌜ length (tableText t (now word) n (now words)) ≤ length (now out) ⌝ }
+    ensures { λ r. ⌜ Put (now (out .entry)) 0 (tableText t (now (word .entry)) n (now (words .entry))) (now (out .exit)) r ⌝ }
 {
+    let counted = t.counted;
+    let ins = t.ins;
+    let outs = t.outs;
     let a = put_header(out, 0, b".i ", n as usize);
     let b = put_header(out, a, b".o ", n as usize);
-    let c = put_bytes(out, b, b".type f\n");
-    let d = put_header(out, c, b".p ", sheet.len());
-    let e = put_rows(out, d, n, sheet);
+    let c = put_type(out, b, word);
+    let d = put_count(out, c, counted, words.len());
+    let e = put_rows(out, d, n, words, ins, outs);
     put_bytes(out, e, b".e\n")
 }
 
@@ -163,18 +195,41 @@ pub fn digits(v: usize) -> usize
     k
 }
 
-// The text of a sheet of `count` rules is not longer than the room.
-fn text_fits(n: u32, count: usize, room: usize) -> bool
-    requires { ⌜ (n ≤ 10) × (count < 2 ^ 63) ⌝ }
-    ensures { λ r. ⌜ r ≡ leb (textLength n count) room ⌝ }
+// How long the line `.p` is, where the table has it.
+fn count_length(counted: bool, count: usize) -> usize
+    requires { ⌜ count < 2 ^ 63 ⌝ }
+    ensures { λ r. ⌜ (r ≡ countLength counted count) × (r ≤ count + 5) ⌝ }
 {
+    if counted {
+        return 4 + digits(count);
+    }
+    0
+}
+
+// The text of a table of `count` rows is not longer than the room.
+fn text_fits(t: Table, word: &[u8], n: u32, count: usize, room: usize) -> bool
+    requires { ⌜ (n ≤ 10) × (count < 2 ^ 63) × (length (now word) ≤ 2) ⌝ }
+    ensures { λ r. ⌜ r ≡ leb (textLength t (now (word .entry)) n count) room ⌝ }
+{
+    let counted = t.counted;
     let size = n as usize;
-    let head = 23 + 2 * digits(size) + digits(count);
+    let head = 18 + word.len() + 2 * digits(size) + count_length(counted, count);
     let row = 2 * size + 2;
     if room < head {
         return false;
     }
     count <= (room - head) / row
+}
+
+// A sheet is a table with `.p`, of the bodies and heads of its rules.
+fn sheet_table() -> Table
+    ensures { λ r. ⌜ r ≡ sheetTable ⌝ }
+{
+    Table {
+        counted: true,
+        ins: Column::Body,
+        outs: Column::Head,
+    }
 }
 
 // 2, 3, 5 or 12, in this order; else 0.
@@ -190,7 +245,7 @@ fn write_code(n: u32, sheet: &[u32], count: usize, room: usize) -> u32
     if !prime::is_good_sheet(n, &sheet[..count]) {
         return 5;
     }
-    if !text_fits(n, count, room) {
+    if !text_fits(sheet_table(), b"f", n, count, room) {
         return 12;
     }
     0
@@ -210,6 +265,6 @@ pub fn write_sheet(n: u32, sheet: &[u32], count: usize, out: &mut [u8]) -> Write
     if code != 0 {
         return with_length(code, 0);
     }
-    let length = put_sheet(n, &sheet[..count], out);
+    let length = put_table(sheet_table(), b"f", n, &sheet[..count], out);
     with_length(0, length)
 }

@@ -4,10 +4,10 @@ use Rattle.writing.proofs.column_byte.Statement.{statement}
 use Rattle.writing.proofs.column_byte.Tie as tie
 
 returns : tie.Need-returns
-returns c = rw (c .before .enum-told .given .1) (c .input-byte .ensures)
+returns c = rw (c .before .enum-told .given .1) (c .body-byte .ensures)
 
 returns-2 : tie.Need-returns-2
-returns-2 c = rw (c .before .enum-told2 .given .1) (c .output-byte .ensures)
+returns-2 c = rw (c .before .enum-told2 .given .1) (c .head-byte .ensures)
 
 pub column-byte-spec : {M : Type 1} → statement M
 column-byte-spec =

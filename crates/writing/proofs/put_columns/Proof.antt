@@ -2,7 +2,7 @@
 use Prim.Native.Nat.{_-_, _≤_}
 use Rattle.writing.proofs.PutLaws.{put-none}
 use Rattle.writing.proofs.TextLaws.{columns-length, put-column}
-use Rattle.writing.specs.SheetText.{columns, columnByte}
+use Rattle.writing.specs.TableText.{columns, columnByte}
 use Rattle.writing.specs.Writing.{Put}
 use borrow.Author.Needs.{needs}
 use lib.ListN.{length}
@@ -12,10 +12,10 @@ use Rattle.writing.proofs.put_columns.Statement.{statement}
 use Rattle.writing.proofs.put_columns.Tie as tie
 
 abbrev Inv-loop : tie.InvT-loop
-Inv-loop out₀ at n w s e₀ v₀ out e v = (v ≤ n) × (length out ≡ length out₀) × Put out₀ at (columns (columnByte s w) v) out e
+Inv-loop out₀ at n w c e₀ v₀ out e v = (v ≤ n) × (length out ≡ length out₀) × Put out₀ at (columns (columnByte c w) v) out e
 
 abbrev μ-loop : tie.MeasureT-loop
-μ-loop out₀ at n w s e₀ v₀ out e v = n - v
+μ-loop out₀ at n w c e₀ v₀ out e v = n - v
 
 loop-holds : tie.Need-loop-holds Inv-loop μ-loop
 unfolding columns
@@ -24,13 +24,13 @@ loop-holds c = (omega arith, refl, put-none _ _)
 put-byte-requires : tie.Need-put-byte-requires Inv-loop μ-loop
 put-byte-requires c κs =
     let start = c .before .before .before .before .before in
-    let p = c .before .before .before .loop .inv .2 .behind in omega (arith, columns-length (columnByte (start .args .s) (start .args .w)) (c .before .before .before .loop .v))
+    let p = c .before .before .before .loop .inv .2 .behind in omega (arith, columns-length (columnByte (start .args .c) (start .args .w)) (c .before .before .before .loop .v))
 
 loop-again : tie.Need-loop-again Inv-loop μ-loop
 loop-again c =
     let start = c .before .before .before .before .before .before .before .before in
     let loop = c .before .before .before .before .before .before .loop in
-    (omega arith, omega arith, put-column (columnByte (start .args .s) (start .args .w)) _ _ (start .args .n) (loop .v) _ _ _ _ _ (start .pre) (omega arith) (loop .inv .2) (c .before .before .before .column-byte .ensures) (c .before .before .put-byte .ensures))
+    (omega arith, omega arith, put-column (columnByte (start .args .c) (start .args .w)) _ _ (start .args .n) (loop .v) _ _ _ _ _ (start .pre) (omega arith) (loop .inv .2) (c .before .before .before .column-byte .ensures) (c .before .before .put-byte .ensures))
 
 returns : tie.Need-returns Inv-loop μ-loop
 returns c = let q : c .before .loop .v ≡ c .before .before .before .args .n = omega arith in rw q at (c .before .loop .inv .2)

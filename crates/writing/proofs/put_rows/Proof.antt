@@ -2,7 +2,7 @@
 use Prim.Native.Nat.{_-_, _≤_}
 use Rattle.writing.proofs.PutLaws.{put-none}
 use Rattle.writing.proofs.TextLaws.{rows-room, put-row-next}
-use Rattle.writing.specs.SheetText.{rowsText}
+use Rattle.writing.specs.TableText.{columnByte, rowsText}
 use Rattle.writing.specs.Writing.{Put}
 use borrow.Author.Needs.{needs}
 use denote.Ref.{now}
@@ -14,10 +14,10 @@ use Rattle.writing.proofs.put_rows.Statement.{statement}
 use Rattle.writing.proofs.put_rows.Tie as tie
 
 abbrev Inv-loop : tie.InvT-loop
-Inv-loop out₀ at n sheet e₀ i₀ out e i = (i ≤ length sheet) × (length out ≡ length out₀) × Put out₀ at (rowsText n (take i sheet)) out e
+Inv-loop out₀ at n words ins outs e₀ i₀ out e i = (i ≤ length words) × (length out ≡ length out₀) × Put out₀ at (rowsText (columnByte ins) (columnByte outs) n (take i words)) out e
 
 abbrev μ-loop : tie.MeasureT-loop
-μ-loop out₀ at n sheet e₀ i₀ out e i = length sheet - i
+μ-loop out₀ at n words ins outs e₀ i₀ out e i = length words - i
 
 loop-holds : tie.Need-loop-holds Inv-loop μ-loop
 unfolding rowsText
@@ -26,16 +26,16 @@ loop-holds c = (omega arith, refl, put-none _ _)
 put-row-requires : tie.Need-put-row-requires Inv-loop μ-loop
 put-row-requires c κs =
     let start = c .before .before .before .before .before .before in
-    let p = c .before .before .before .loop .inv .2 .behind in let h = start .pre in omega (arith, rows-room (start .args .n) (now (start .args .sheet)) (c .before .before .before .loop .i) (omega arith))
+    let p = c .before .before .before .loop .inv .2 .behind in let h = start .pre in omega (arith, rows-room (columnByte (start .args .ins)) (columnByte (start .args .outs)) (start .args .n) (now (start .args .words)) (c .before .before .before .loop .i) (omega arith))
 
 loop-again : tie.Need-loop-again Inv-loop μ-loop
 loop-again c =
     let start = c .before .before .before .before .before .before .before .before .before in
     let loop = c .before .before .before .before .before .before .loop in
-    (omega arith, omega arith, put-row-next (start .args .n) (now (start .args .sheet)) (loop .i) (omega arith) _ _ _ _ _ _ (start .pre) (loop .inv .2) (c .before .before .put-row .ensures))
+    (omega arith, omega arith, put-row-next (columnByte (start .args .ins)) (columnByte (start .args .outs)) (start .args .n) (now (start .args .words)) (loop .i) (omega arith) _ _ _ _ _ _ (start .pre) (loop .inv .2) (c .before .before .put-row .ensures))
 
 returns : tie.Need-returns Inv-loop μ-loop
-returns c = rw (take-all (c .before .loop .i) (now (c .before .before .before .before .args .sheet)) (omega arith)) at (c .before .loop .inv .2)
+returns c = rw (take-all (c .before .loop .i) (now (c .before .before .before .before .args .words)) (omega arith)) at (c .before .loop .inv .2)
 
 pub put-rows-spec : {M : Type 1} → statement M
 put-rows-spec =

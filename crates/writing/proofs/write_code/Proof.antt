@@ -27,18 +27,26 @@ returns-3 c =
 
 text-fits-requires : tie.Need-text-fits-requires
 text-fits-requires c κs =
-    let the-is-panel-size = c .before .before .before .before .before .is-panel-size in
-    (size-small _ (sym (the-is-panel-size .ensures) ∙ not-false (the-is-panel-size .result) (c .before .before .before .before .if1 .left)), omega arith)
+    let sized = c .before .before .before .before .before .before in
+    (size-small _ (sym (sized .before .is-panel-size .ensures) ∙ not-false (sized .before .is-panel-size .result) (sized .if1 .left)), omega arith, omega arith)
 
 returns-4 : tie.Need-returns-4
 returns-4 c =
-    let the-is-panel-size = c .before .before .before .before .before .before .before .is-panel-size in
-    code-12 _ _ _ _ (sym (the-is-panel-size .ensures) ∙ not-false (the-is-panel-size .result) (c .before .before .before .before .before .before .if1 .left)) (c .before .before .before .before .before .if2 .left) (sym (c .before .before .before .is-good-sheet .ensures) ∙ not-false (c .before .before .before .is-good-sheet .result) (c .before .before .if3 .left)) (sym (c .before .text-fits .ensures) ∙ not-true (c .before .text-fits .result) (c .if4 .taken))
+    let tabled = c .before .before .before in
+    let good = tabled .before in
+    let counted = good .before .before .before in
+    let sized = counted .before in
+    let asked = sized .before in
+    code-12 _ _ _ _ (sym (asked .is-panel-size .ensures) ∙ not-false (asked .is-panel-size .result) (sized .if1 .left)) (counted .if2 .left) (sym (good .before .is-good-sheet .ensures) ∙ not-false (good .before .is-good-sheet .result) (good .if3 .left)) _ (tabled .sheet-table .ensures) (sym (c .before .text-fits .ensures) ∙ not-true (c .before .text-fits .result) (c .if4 .taken))
 
 returns-5 : tie.Need-returns-5
 returns-5 c =
-    let the-is-panel-size = c .before .before .before .before .before .before .before .is-panel-size in
-    code-0 _ _ _ _ (sym (the-is-panel-size .ensures) ∙ not-false (the-is-panel-size .result) (c .before .before .before .before .before .before .if1 .left)) (c .before .before .before .before .before .if2 .left) (sym (c .before .before .before .is-good-sheet .ensures) ∙ not-false (c .before .before .before .is-good-sheet .result) (c .before .before .if3 .left)) (sym (c .before .text-fits .ensures) ∙ not-false (c .before .text-fits .result) (c .if4 .left))
+    let tabled = c .before .before .before in
+    let good = tabled .before in
+    let counted = good .before .before .before in
+    let sized = counted .before in
+    let asked = sized .before in
+    code-0 _ _ _ _ (sym (asked .is-panel-size .ensures) ∙ not-false (asked .is-panel-size .result) (sized .if1 .left)) (counted .if2 .left) (sym (good .before .is-good-sheet .ensures) ∙ not-false (good .before .is-good-sheet .result) (good .if3 .left)) _ (tabled .sheet-table .ensures) (sym (c .before .text-fits .ensures) ∙ not-false (c .before .text-fits .result) (c .if4 .left))
 
 pub write-code-spec : {M : Type 1} → statement M
 write-code-spec =
@@ -50,6 +58,8 @@ write-code-spec =
     slice-aggregate-is-good-sheet
     is-good-sheet-requires
     returns-3
+    (λ c κs. search needs)
+    (λ c. search needs)
     text-fits-requires
     returns-4
     returns-5)

@@ -1,6 +1,8 @@
 -- `writing::write_sheet` meets its contract.
-use Rattle.writing.proofs.WriteLaws.{ready, write-refused, write-done}
+use Rattle.writing.proofs.WriteLaws.{ready, as-table, write-refused, write-done}
 use borrow.Author.Needs.{needs}
+use denote.Ref.{now}
+use lib.ListN.{take}
 use lib.Seq.{length-take-le}
 use mathlib.Core.Path.{sym, _∙_}
 use native.Mathlib.Omega.{arith}
@@ -10,14 +12,24 @@ use Rattle.writing.proofs.write_sheet.Tie as tie
 returns : tie.Need-returns
 returns c = write-refused _ _ _ _ _ (c .before .before .write-code .ensures) _ (c .before .if1 .taken) (c .with-length .ensures)
 
-slice-aggregate-put-sheet : tie.Need-slice-aggregate-put-sheet
-slice-aggregate-put-sheet c = sym (length-take-le _ _ (ready _ _ _ _ (sym (c .before .before .write-code .ensures) ∙ c .before .if1 .left) .counted))
+slice-aggregate-put-table-2 : tie.Need-slice-aggregate-put-table-2
+slice-aggregate-put-table-2 c =
+    let done = c .before .before .before in
+    sym (length-take-le _ _ (ready _ _ _ _ (sym (done .before .write-code .ensures) ∙ done .if1 .left) .counted))
 
-put-sheet-requires : tie.Need-put-sheet-requires
-put-sheet-requires c κs = omega (arith, ready _ _ _ _ (sym (c .before .before .before .write-code .ensures) ∙ c .before .before .if1 .left) .fits)
+put-table-requires : tie.Need-put-table-requires
+put-table-requires c κs =
+    let tabled = c .before .before .before in
+    let done = tabled .before in
+    let start = done .before .before .before .before in
+    rw (as-table _ (tabled .sheet-table .ensures) (start .args .n) (take (start .args .count) (now (start .args .sheet)))) (omega (arith, ready _ _ _ _ (sym (done .before .write-code .ensures) ∙ done .if1 .left) .fits))
 
 returns-2 : tie.Need-returns-2
-returns-2 c = write-done _ _ _ _ _ (c .before .before .before .before .before .before .before .write-code .ensures) _ _ _ (c .before .before .before .before .before .before .if1 .left) (c .before .before .before .put-sheet .ensures) (c .with-length2 .ensures)
+returns-2 c =
+    let put = c .before .before .before in
+    let tabled = put .before .before .before .before in
+    let done = tabled .before in
+    write-done _ _ _ _ _ (done .before .write-code .ensures) _ _ (tabled .sheet-table .ensures) _ _ (done .if1 .left) (put .put-table .ensures) (c .with-length2 .ensures)
 
 pub write-sheet-spec : {M : Type 1} → statement M
 write-sheet-spec =
@@ -26,8 +38,10 @@ write-sheet-spec =
     (λ c κs. search needs)
     (λ c κs. search needs)
     returns
-    slice-aggregate-put-sheet
-    put-sheet-requires
+    (λ c κs. search needs)
+    (λ c. search needs)
+    slice-aggregate-put-table-2
+    put-table-requires
     (λ c κs. search needs)
     (λ c. search needs)
     returns-2)

@@ -1,24 +1,24 @@
--- `writing::input_byte` meets its contract.
-use Rattle.writing.specs.SheetText.{inputByte}
+-- `writing::body_byte` meets its contract.
+use Rattle.writing.specs.TableText.{bodyByte}
 use borrow.Author.Needs.{needs}
 use mathlib.Core.Path.{sym, _∙_}
-use Rattle.writing.proofs.input_byte.Statement.{statement}
-use Rattle.writing.proofs.input_byte.Tie as tie
+use Rattle.writing.proofs.body_byte.Statement.{statement}
+use Rattle.writing.proofs.body_byte.Tie as tie
 
 returns : tie.Need-returns
-unfolding inputByte
+unfolding bodyByte
 returns c = rw (← c .before .before .must-on .ensures, sym (c .before .is-on .ensures) ∙ c .if1 .taken)
 
 returns-2 : tie.Need-returns-2
-unfolding inputByte
+unfolding bodyByte
 returns-2 c = rw (← c .before .before .before .before .before .must-on .ensures, sym (c .before .before .before .before .is-on .ensures) ∙ c .before .before .before .if1 .left, ← c .before .before .must-off .ensures, sym (c .before .is-on2 .ensures) ∙ c .if2 .taken)
 
 returns-3 : tie.Need-returns-3
-unfolding inputByte
+unfolding bodyByte
 returns-3 c = rw (← c .before .before .before .before .before .must-on .ensures, sym (c .before .before .before .before .is-on .ensures) ∙ c .before .before .before .if1 .left, ← c .before .before .must-off .ensures, sym (c .before .is-on2 .ensures) ∙ c .if2 .left)
 
-pub input-byte-spec : {M : Type 1} → statement M
-input-byte-spec =
+pub body-byte-spec : {M : Type 1} → statement M
+body-byte-spec =
     tie.close
     (tie.spec
     (λ c κs. search needs)
