@@ -19,8 +19,9 @@ use Rattle.sessions.specs.Sessions.{sessionIf, counted, totalsFit, sessionAfter
 use Rattle.sessions.proofs.Outcomes.{after-refused}
 use Rattle.lent.specs.Lent.{TakesLent}
 use Rattle.lent.proofs.Laws.{lent-determined}
-use Rattle.public.specs.PublicCalls.{lent-take}
-use Rattle.exports.specs.Numbers.{numbers, sessionNumbers, sessionIn, sized, narrowed, Hands}
+use Rattle.public.specs.PublicCalls.{session-take-lent}
+use Rattle.exports.specs.Numbers.{numbers, sessionNumbers, sessionIn, Hands}
+use Rattle.exports.specs.Sizes.{narrowed, sized}
 
 -- a number that fits is read as it stands, and any other as a number above 10
 narrowed-same : (k : ℕ) → leb k 4294967295 ≡ true → narrowed k ≡ k
@@ -112,7 +113,7 @@ module _ (s : Session) (book sheet : List ℕ) (i j : ℕ) where
 pub take-handed : (xs book sheet : List ℕ) (i j : ℕ) (u : Session) (o : Outcome) (xs′ book′ sheet′ out : List ℕ) (r : ℕ)
     → u ≡ sized (narrowed (getD xs 0 0)) (sessionIn xs) → TakesLent u book sheet i j (o .session) book′ sheet′ (o .answer)
     → xs′ ≡ sessionNumbers (sized (getD xs 0 0) (o .session)) → out ≡ numbers (o .answer) → r ≡ o .answer .code
-    → Hands (lent-take (sessionIn xs) book sheet i j) (xs′ ∷ book′ ∷ sheet′ ∷ []) out r
+    → Hands (session-take-lent (sessionIn xs) book sheet i j) (xs′ ∷ book′ ∷ sheet′ ∷ []) out r
 take-handed xs book sheet i j u o xs′ book′ sheet′ out r e h kept stored told = record {
   result = (o .answer, sized (getD xs 0 0) (o .session), book′, sheet′);
   meets = take-narrowed (sessionIn xs) book sheet i j (getD xs 0 0) u (o .session) book′ sheet′ (o .answer) e h;

@@ -1,4 +1,4 @@
-// The calls under C's names: each makes the inner call, stores the numbers of its answer, and returns the code.
+// The calls under C's names: each makes the public call, stores the numbers of its answer, and returns the code.
 use answers::Answer;
 use recording::ReadAnswer;
 use sessions::Session;
@@ -6,8 +6,9 @@ ghost use mathlib.Core.Path.{_≡_};
 ghost use mathlib.Core.List.{_∷_, []};
 ghost use lib.ListN.{getD};
 ghost use Rattle.joining.specs.Joining.{piece};
-ghost use Rattle.public.specs.PublicCalls.{fresh, take, learn, join, apply, session-start, lent-take, read, write-sheet, run};
-ghost use Rattle.exports.specs.Numbers.{numbers, numbersWith, readNumbers, sessionNumbers, sessionIn, sized, narrowed, Hands};
+ghost use Rattle.public.specs.PublicCalls.{fresh, take, learn, join, apply, session-start, session-take-lent, read, write-sheet, run};
+ghost use Rattle.exports.specs.Numbers.{numbers, numbersWith, readNumbers, sessionNumbers, sessionIn, Hands};
+ghost use Rattle.exports.specs.Sizes.{narrowed, sized};
 
 fn narrow(x: usize) -> u32
     ensures { λ r. ⌜ r ≡ narrowed x ⌝ }
@@ -181,6 +182,7 @@ pub extern "C" fn ntekuzino_session_start(
     put_answer(o.answer, answer)
 }
 
+// The first number of the session stays: one that fits is not changed by take, and with any other take is refused.
 #[no_mangle]
 pub extern "C" fn ntekuzino_session_take(
     session: &mut [usize; 5],
@@ -190,7 +192,7 @@ pub extern "C" fn ntekuzino_session_take(
     j: u32,
     answer: &mut [usize; 6],
 ) -> u32
-    ensures { λ r. ⌜ Hands (lent-take (sessionIn (now (session .entry))) (now (book .entry)) (now (sheet .entry)) i j) (now (session .exit) ∷ now (book .exit) ∷ now (sheet .exit) ∷ []) (now (answer .exit)) r ⌝ }
+    ensures { λ r. ⌜ Hands (session-take-lent (sessionIn (now (session .entry))) (now (book .entry)) (now (sheet .entry)) i j) (now (session .exit) ∷ now (book .exit) ∷ now (sheet .exit) ∷ []) (now (answer .exit)) r ⌝ }
 {
     let first = session[0];
     let s = session_in(session);

@@ -8,7 +8,7 @@ use base.Logic.{ent, sep}
 use base.Fml.{fat, fsep}
 use prog.Wp.{Heap}
 use ghost.Atoms.{Atoms, sem}
-use types.Kit.{Given, ‵, _$_, _∵_, !, qed, move, use1, fsplit, fjoin, fpick, fpack, frame, done}
+use types.Kit.{Given, ‵, _$_, _∵_, !, qed, move, use1, fsplit, fjoin, fpick, fpack, done}
 use denote.Memory.{mem, cellAt, partOf}
 use denote.Laws.{Is, shows}
 use denote.Steps.{owned}

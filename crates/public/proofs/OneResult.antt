@@ -9,7 +9,7 @@ use Rattle.lent.proofs.Laws.{lent-determined}
 use Rattle.recording.proofs.ReadLaws.{read-unique}
 use Rattle.writing.proofs.WriteLaws.{write-unique}
 use Rattle.program.proofs.Promises.{run-unique}
-use Rattle.public.specs.PublicCalls.{Call, fresh, take, learn, join, apply, session-start, session-take, lent-take, read, write-sheet, run, Result, Contract}
+use Rattle.public.specs.PublicCalls.{Call, fresh, take, learn, join, apply, session-start, session-take, session-take-lent, read, write-sheet, run, Result, Contract}
 
 pub one-result : (c : Call) (r q : Result c) → Contract c r → Contract c q → r ≡ q
 one-result (fresh n sheet) r q x y = let e = fresh-determined n sheet (r .1) (q .1) (r .0) (q .0) x y in λ i. (e .0 i, e .1 i)
@@ -21,7 +21,7 @@ one-result (apply n sheet sheets z) r q x y = apply-determined n sheet sheets z 
 one-result (session-start n sheet) r q x y = let e = start-determined n sheet (r .1) (q .1) (r .0) (q .0) x y in λ i. (e .0 i, e .1 i)
 one-result (session-take s book sheet i j) r q x y =
     let e = session-determined s book sheet i j (r .1) (r .2) (q .1) (q .2) (r .0) (q .0) x y in λ i. (e .0 i, e .1 i, e .2 i)
-one-result (lent-take s book sheet i j) r q x y =
+one-result (session-take-lent s book sheet i j) r q x y =
     let e = lent-determined s book sheet i j (r .1) (q .1) (r .2) (q .2) (r .3) (q .3) (r .0) (q .0) x y in λ i. (e .0 i, e .1 i, e .2 i, e .3 i)
 one-result (read text list) r q x y = let e = read-unique x y in λ i. (e .0 i, e .1 i)
 one-result (write-sheet n sheet count out) r q x y = let e = write-unique x y in λ i. (e .0 i, e .1 i)

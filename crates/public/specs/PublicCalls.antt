@@ -30,7 +30,7 @@ pub data Call : Type 0 where
   apply : (n : ℕ) (sheet : List ℕ) (sheets x : ℕ) → Call
   session-start : (n : ℕ) (sheet : List ℕ) → Call
   session-take : (s : Session) (book sheet : List ℕ) (i j : ℕ) → Call
-  lent-take : (s : Session) (book sheet : List ℕ) (i j : ℕ) → Call
+  session-take-lent : (s : Session) (book sheet : List ℕ) (i j : ℕ) → Call
   read : (text list : List ℕ) → Call
   write-sheet : (n : ℕ) (sheet : List ℕ) (count : ℕ) (out : List ℕ) → Call
   run : (input list book sheet output : List ℕ) → Call
@@ -44,12 +44,12 @@ Result (join n a b book sheet) = Answer × List ℕ × List ℕ
 Result (apply n sheet sheets x) = Applied
 Result (session-start n sheet) = Outcome × List ℕ
 Result (session-take s book sheet i j) = Outcome × List ℕ × List ℕ
-Result (lent-take s book sheet i j) = Answer × Session × List ℕ × List ℕ
+Result (session-take-lent s book sheet i j) = Answer × Session × List ℕ × List ℕ
 Result (read text list) = ReadAnswer × List ℕ
 Result (write-sheet n sheet count out) = WriteAnswer × List ℕ
 Result (run input list book sheet output) = ℕ × List ℕ × List ℕ × List ℕ × List ℕ
 
--- what the function of src/ ensures
+-- what the function of src/ ensures, which is stated by this
 abbrev pub Contract : (c : Call) → Result c → Type 0
 Contract (fresh n sheet) r = Fresh n sheet (r .1) (r .0)
 Contract (take n book books sheet sheets i j) r = Taken false n book books sheet sheets i j (r .1) (r .2) (r .0)
@@ -58,7 +58,7 @@ Contract (join n a b book sheet) r = Joined n a b book sheet (r .0) (r .1) (r .2
 Contract (apply n sheet sheets x) r = r ≡ applyAnswer n sheet sheets x
 Contract (session-start n sheet) r = Starts n sheet (r .1) (r .0)
 Contract (session-take s book sheet i j) r = Takes s book sheet i j (r .1) (r .2) (r .0)
-Contract (lent-take s book sheet i j) r = TakesLent s book sheet i j (r .1) (r .2) (r .3) (r .0)
+Contract (session-take-lent s book sheet i j) r = TakesLent s book sheet i j (r .1) (r .2) (r .3) (r .0)
 Contract (read text list) r = Reads text list (r .1) (r .0)
 Contract (write-sheet n sheet count out) r = Writes n sheet count out (r .1) (r .0)
 Contract (run input list book sheet output) r = Runs input list book sheet output (r .1) (r .2) (r .3) (r .4) (r .0)

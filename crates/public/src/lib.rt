@@ -6,7 +6,7 @@ use sessions::Outcome;
 use sessions::Session;
 use writing::WriteAnswer;
 ghost use Rattle.joining.specs.Joining.{piece};
-ghost use Rattle.public.specs.PublicCalls.{fresh, take, learn, join, apply, session-start, session-take, lent-take, read, write-sheet, run, Contract};
+ghost use Rattle.public.specs.PublicCalls.{fresh, take, learn, join, apply, session-start, session-take, session-take-lent, read, write-sheet, run, Contract};
 
 // Writes the fresh sheet: n rules with empty bodies.
 pub fn fresh(n: u32, sheet: &mut [u32]) -> Answer
@@ -95,7 +95,7 @@ pub fn session_take(
     session.take(book, sheet, i, j)
 }
 
-// The same through a record that is lent for it.
+// The same through a record that is lent. Whoever has a record to lend calls `lent::take_lent`, which ensures this same contract (`lent-stated`).
 pub fn session_take_lent(
     session: Session,
     book: &mut [u32],
@@ -103,7 +103,7 @@ pub fn session_take_lent(
     i: u32,
     j: u32,
 ) -> Outcome
-    ensures { λ r. ⌜ Contract (lent-take session (now (book .entry)) (now (sheet .entry)) i j) (r .answer, r .session, now (book .exit), now (sheet .exit)) ⌝ }
+    ensures { λ r. ⌜ Contract (session-take-lent session (now (book .entry)) (now (sheet .entry)) i j) (r .answer, r .session, now (book .exit), now (sheet .exit)) ⌝ }
 {
     lent::lend_to_take(session, book, sheet, i, j)
 }

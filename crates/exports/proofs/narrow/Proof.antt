@@ -1,6 +1,6 @@
 -- `exports::narrow` meets its contract: each arm returns what the test tells `narrowed` to pick.
 use borrow.Author.Tests.{le-leb, lt-leb}
-use Rattle.exports.specs.Numbers.{narrowed}
+use Rattle.exports.specs.Sizes.{narrowed}
 use borrow.Author.Needs.{needs}
 use Rattle.exports.proofs.narrow.Statement.{statement}
 use Rattle.exports.proofs.narrow.Tie as tie

@@ -4,12 +4,6 @@ use Rattle.exports.proofs.Sessions.{take-handed}
 use borrow.Author.Needs.{needs}
 use Rattle.exports.proofs.ntekuzino_session_take.Statement.{statement}
 use Rattle.exports.proofs.ntekuzino_session_take.Tie as tie
-use Rattle.exports.proofs.ntekuzino_session_take.Reads as reads
-use Rattle.exports.proofs.ntekuzino_session_take.Lts as lts
-use Rattle.exports.proofs.put_answer.Reads as put-answer-reads
-use Rattle.exports.proofs.put_session.Reads as put-session-reads
-use Rattle.exports.proofs.session_in.Reads as session-in-reads
-use Rattle.public.proofs.session_take_lent.Reads as session-take-lent-reads
 
 element-copy-out-first : tie.Need-element-copy-out-first
 element-copy-out-first c = search needs
@@ -34,8 +28,12 @@ same-length-2 c = search needs
 
 returns : tie.Need-returns
 returns c =
+    let stored = c .put-answer in
+    let kept = c .before .before .put-session in
     let taken = c .before .before .before .before .before .before .before .before .session-take-lent in
-    take-handed (now (c .before .before .before .before .before .before .before .before .before .before .before .before .before .before .before .before .args .session)) _ _ _ _ _ (taken .result) _ _ _ _ _ (c .before .before .before .before .before .before .before .before .before .before .before .session-in .ensures) (taken .ensures) (c .before .before .put-session .ensures) (c .put-answer .ensures .0) (c .put-answer .ensures .1)
+    let held = c .before .before .before .before .before .before .before .before .before .before .before .session-in in
+    let start = c .before .before .before .before .before .before .before .before .before .before .before .before .before .before .before .before in
+    take-handed (now (start .args .session)) _ _ _ _ _ (taken .result) _ _ _ _ _ (held .ensures) (taken .ensures) (kept .ensures) (stored .ensures .0) (stored .ensures .1)
 
 pub ntekuzino-session-take-spec : {M : Type 1} → statement M
 ntekuzino-session-take-spec =

@@ -2,13 +2,11 @@
 use mathlib.Core.Path.{ap}
 use Prim.Native.Nat.{ℕ}
 use denote.Ref.{now}
-use Rattle.exports.specs.Numbers.{sessionIn, sized}
+use Rattle.exports.specs.Numbers.{sessionIn}
+use Rattle.exports.specs.Sizes.{sized}
 use borrow.Author.Needs.{needs}
 use Rattle.exports.proofs.session_in.Statement.{statement}
 use Rattle.exports.proofs.session_in.Tie as tie
-use Rattle.exports.proofs.session_in.Reads as reads
-use Rattle.exports.proofs.session_in.Lts as lts
-use Rattle.exports.proofs.narrow.Reads as narrow-reads
 
 element-copy-out-narrow : tie.Need-element-copy-out-narrow
 element-copy-out-narrow c = search needs
@@ -29,7 +27,9 @@ element-copy-out-t17 : tie.Need-element-copy-out-t17
 element-copy-out-t17 c = search needs
 
 returns : tie.Need-returns
-returns c = ap (λ (k : ℕ). sized k (sessionIn (now (c .before .before .before .before .before .before .args .x)))) (c .before .before .before .before .narrow .ensures)
+returns c =
+    let start = c .before .before .before .before .before .before in
+    ap (λ (k : ℕ). sized k (sessionIn (now (start .args .x)))) (c .before .before .before .before .narrow .ensures)
 
 pub session-in-spec : {M : Type 1} → statement M
 session-in-spec =
