@@ -36,7 +36,7 @@ static uint32_t session_take(ntekuzino_session *session, Piece *p, uint32_t word
 /* Takes each word through a session; book, sheet and totals must come out as learn left them. */
 static void take_each(const uint32_t *words, size_t count, const Piece *whole) {
     Piece p = {{0}, {0}, {0}};
-    ntekuzino_session session;
+    ntekuzino_session session = {0};
     expect(ntekuzino_session_start(N, p.sheet, ROOM, &session, &p.answer) == NTEKUZINO_DONE, "a session starts");
     for (size_t k = 0; k < count; k++)
         expect(session_take(&session, &p, words[k]) == NTEKUZINO_DONE, "a session takes");
@@ -54,7 +54,7 @@ static void take_each(const uint32_t *words, size_t count, const Piece *whole) {
 /* Fresh and take by themselves, and refusals: K6 and K8 of the build description. */
 static void small_rooms(void) {
     uint32_t book[2] = {0}, sheet[6] = {9, 9, 9, 9, 9, 9};
-    ntekuzino_answer a;
+    ntekuzino_answer a = {0};
     expect(ntekuzino_fresh(2, sheet, 1, &a) == NTEKUZINO_SHEET_ROOM && sheet[0] == 9, "a refused fresh changes nothing");
     expect(ntekuzino_fresh(2, sheet, 4, &a) == NTEKUZINO_DONE && a.sheet_count == 2 && sheet[3] == 0 &&
                sheet[4] == 9, "fresh writes its slice alone");
@@ -72,15 +72,15 @@ static void small_rooms(void) {
 int main(void) {
     static const char text[] = ".i 3\n.o 3\n.type fr\n111 110\n110 100\n100 000\n000 001\n001 001\n011 101\n101 010\n"
                                "010 101\n.e\n";
-    uint32_t words[ROOM];
-    ntekuzino_reading read;
+    uint32_t words[ROOM] = {0};
+    ntekuzino_reading read = {0};
     ntekuzino_read((const uint8_t *)text, sizeof text - 1, words, ROOM, &read);
     size_t count = read.count;
     printf("read: code %zu, n %zu, rows %zu\n", read.code, read.n, count);
     expect(read.n == N && count == 8, "the recording has 3 relays and 8 rows");
 
     /* One row stands in both pieces. */
-    Piece whole, a, b, joined;
+    static Piece whole, a, b, joined;
     learn(&whole, words, count);
     learn(&a, words, 5);
     learn(&b, words + 4, count - 4);
@@ -93,8 +93,8 @@ int main(void) {
     expect(memcmp(joined.sheet, whole.sheet, sizeof whole.sheet) == 0, "the joined sheet is that of the whole");
 
     size_t sheets = joined.answer.sheet_count;
-    ntekuzino_applied applied;
-    ntekuzino_written written;
+    ntekuzino_applied applied = {0};
+    ntekuzino_written written = {0};
     for (size_t k = 0; k < count; k++)
         expect(ntekuzino_apply(N, joined.sheet, ROOM, sheets, ntekuzino_transition_state(words[k]), &applied) ==
                        NTEKUZINO_DONE && applied.state == ntekuzino_transition_successor(words[k]), "the sheet reproduces its recording");
@@ -102,7 +102,7 @@ int main(void) {
     take_each(words, count, &whole);
     small_rooms();
 
-    uint8_t out[256], again[256];
+    uint8_t out[256] = {0}, again[256] = {0};
     ntekuzino_write_sheet(N, joined.sheet, ROOM, sheets, out, sizeof out, &written);
     size_t length = written.length;
     expect(ntekuzino_write_sheet(N, joined.sheet, ROOM, sheets, again, length - 1, &written) == NTEKUZINO_TEXT_ROOM,

@@ -4,7 +4,8 @@
  *           relays that must be on, N those that must be off. Bit i is relay i. A panel has n relays, 1 to 10.
  * Slices.   A slice is a pointer and a length in elements, side by side: `uint32_t *book, size_t book_len`. What a call
  *           may write is not const. Slices of one call must not overlap, where one of them may be written. A pointer is
- *           never NULL, not even with length 0, and is aligned for its type.
+ *           never NULL, not even with length 0, and is aligned for its type. What is lent holds values, whatever they
+ *           are: contracts speak of the words before the call too.
  * Counts.   How many words of a slice are in use: `book_count`. A count above its slice is refused with 3, not read.
  * Answers.  Every call writes its numbers into the struct lent last, always all of them, and returns the code again.
  *           Numbers that a call has no use for are 0. A struct is its fields in their order, one size_t each.
