@@ -1,10 +1,10 @@
 -- The passes over a book or a sheet, turn by turn: judging good ones, and applying a sheet.
-use mathlib.Core.Path.{_≡_, refl, sym, ap, ap₂, _∙_, subst}
+use mathlib.Core.Path.{_≡_, refl, sym, ap, _∙_, subst}
 use mathlib.Core.Logic.{_⊎_, inl, inr}
 use mathlib.Core.Bool.{Bool, true, false, not, _&&_, _||_, and-assoc, and-true, and-false, or-false}
-use mathlib.Core.List.{List, [], _∷_, List·Memᴰ as Mem, List·Memᴰ·head as here, List·Memᴰ·tail as there, List·Memᴰ·cases-cons}
-use Prim.Native.Nat.{ℕ, zero, suc, _+_, _-_, _*_, _^_, _≤_, _<_}
-use native.Mathlib.Nat.{lt-of-lt-of-le, le-of-suc-le-suc, not-suc-le-zero}
+use mathlib.Core.List.{List, [], _∷_, List·Memᴰ as Mem, List·Memᴰ·cases-cons}
+use Prim.Native.Nat.{ℕ, zero, suc, _+_, _-_, _^_, _≤_, _<_}
+use native.Mathlib.Nat.{lt-of-lt-of-le, not-suc-le-zero}
 use native.Mathlib.Numerals.{add-one}
 use native.Mathlib.Omega.{arith}
 use lib.Bits.{bitOr, or-lt}
@@ -14,9 +14,9 @@ use lib.Seq.{drop-cons, take-all}
 use lib.Pow.{pow-pos, pow-lt, pow-mono}
 use borrow.Author.Tests.{eqb-true, eq-eqb}
 use Rattle.table.specs.Lists.{any, all, increasing}
-use Rattle.table.proofs.Basics.{and-l, and-r, and-i, or-l, or-r, or-e, not-e, false-test, same-test, any-e, any-i, all-e, either, at-in}
+use Rattle.table.proofs.Basics.{and-r, or-l, or-r, or-e, false-test, same-test, any-e, any-i, all-e, either, at-in}
 use Rattle.table.proofs.Increasing.{first-below, rest-increasing}
-use Rattle.table.proofs.Searching.{anyLeft, any-end, any-more, risesFrom, risesBy, risesLeft, rises-is, rises-start, increasing-rises}
+use Rattle.table.proofs.Searching.{anyLeft, risesBy, risesLeft, rises-is, rises-start, increasing-rises}
 use Rattle.panel.specs.Masks.{on}
 use Rattle.panel.specs.Rules.{ruleWord, head, validRule, covers, contains, narrows}
 use Rattle.panel.specs.Transitions.{state, validTransition}
@@ -25,7 +25,7 @@ use Rattle.panel.proofs.Words.{head-up, rule-e, narrows-e, narrows-le, word-fie
 use Rattle.panel.proofs.Transitions.{transition-e}
 use Rattle.prime.specs.Books.{statesUp, goodBook}
 use Rattle.prime.specs.Sheets.{antichain, goodSheet, pullsIn, applySheet, orBit, pulled}
-use Rattle.prime.proofs.Apply.{apply-lt, apply-on, pullsIn-e, pullsIn-i}
+use Rattle.prime.proofs.Apply.{apply-lt, apply-on}
 
 -- ---- a good book
 

@@ -1,7 +1,6 @@
 -- `sheet::take_rules` meets its contract.
 use mathlib.Core.Path.{refl}
 use native.Mathlib.Omega.{arith}
-use denote.Ref.{now}
 use lib.ListN.{length, take}
 use Rattle.sheet.proofs.Sweeping.{Sweeping, ahead, positive, ahead-visit, ahead-phase, sweeping-start, sweeping-phase, sweeping-can, sweeping-visit, sweeping-end}
 use Rattle.sheet.proofs.take_rules.Statement.{statement}

@@ -1,6 +1,5 @@
 -- `sheet::visit` meets its contract.
 use mathlib.Core.Path.{refl, sym, _∙_}
-use native.Mathlib.Omega.{arith}
 use denote.Ref.{now}
 use lib.Seq.{length-take-le}
 use borrow.Author.Tests.{not-true, not-false}
