@@ -11,7 +11,7 @@ use borrow.Author.Tests.{eqb-true}
 use lib.ListN.{length, drop, getD, drop-of-length-le}
 use lib.Seq.{drop-cons}
 use Rattle.table.specs.Lists.{any, all}
-use Rattle.table.proofs.Basics.{and-l, and-r, and-i, not-i, not-e, same-test, all-e, at-in}
+use Rattle.table.proofs.Basics.{and-l, and-r, and-i, not-i, not-e, same-test, all-e, at-in, or-assoc}
 use Rattle.panel.specs.Masks.{on, bitsWhere}
 use Rattle.panel.specs.Rules.{head, validRule, covers, narrows}
 use Rattle.panel.specs.Transitions.{state, rests, spared}
@@ -25,10 +25,6 @@ use Rattle.heirs.specs.Heirs.{blocked, heirBy, heirMask, nearAll}
 use Rattle.heirs.proofs.Take.{spared-miss}
 
 -- ---- the pass
-
-or-assoc : (x y z : Bool) → ((x || y) || z) ≡ (x || (y || z))
-or-assoc true y z = refl
-or-assoc false y z = refl
 
 or-false : (x : Bool) → x ≡ (x || false)
 or-false true = refl

@@ -194,7 +194,7 @@ module _ (n mask u b i c d : ℕ) (s z : List ℕ) (have : ℕ) (f : FirstOn n m
 
 -- ---- a visit
 
-stays-def : (all : Bool) (n t b : ℕ) (tab : List ℕ) → stays all n t b tab ≡ (spared t b || not (all || eqb (heirMask n t b tab) 0))
+pub stays-def : (all : Bool) (n t b : ℕ) (tab : List ℕ) → stays all n t b tab ≡ (spared t b || not (all || eqb (heirMask n t b tab) 0))
 unfolding stays
 stays-def all n t b tab = refl
 

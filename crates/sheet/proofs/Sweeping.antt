@@ -29,6 +29,7 @@ use Rattle.heirs.proofs.Steps.{heirsOf-e}
 use Rattle.heirs.proofs.InPlace.{Progress, heir-spared, progress-start, progress-end, progress-step, heir-b, first-heirs-in-order, heirs-of-part, weight-step, weight-start, table-fits}
 use Rattle.heirs.proofs.Judging.{picked-heirs, picked-first, mask-none, mask-some}
 use Rattle.sheet.specs.Taking.{stays, planted, visited, Plantable, Visitable}
+use Rattle.sheet.proofs.Planting.{stays-def}
 
 -- ---- the invariant
 
@@ -67,10 +68,6 @@ ahead-visit len i (suc zero) p l = omega arith
 ahead-visit len i (suc (suc k)) p l = absurd (omega arith)
 
 -- ---- whether a rule stays
-
-stays-def : (all : Bool) (n t b : ℕ) (tab : List ℕ) → stays all n t b tab ≡ (spared t b || not (all || eqb (heirMask n t b tab) 0))
-unfolding stays
-stays-def all n t b tab = refl
 
 stays-no : (all : Bool) (n t b : ℕ) (tab : List ℕ) → stays all n t b tab ≡ false → (spared t b ≡ true → ⊥) × ((all || eqb (heirMask n t b tab) 0) ≡ true)
 stays-no all n t b tab e = go (spared t b) refl (all || eqb (heirMask n t b tab) 0) refl (sym (stays-def all n t b tab) ∙ e)

@@ -35,6 +35,10 @@ pub or-r : (a b : Bool) → b ≡ true → (a || b) ≡ true
 or-r true b e = refl
 or-r false b e = e
 
+pub or-assoc : (a b c : Bool) → ((a || b) || c) ≡ (a || (b || c))
+or-assoc true b c = refl
+or-assoc false b c = refl
+
 pub not-i : (a : Bool) → (a ≡ true → ⊥) → not a ≡ true
 not-i true f = absurd (f refl)
 not-i false f = refl
