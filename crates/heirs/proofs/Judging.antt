@@ -1,21 +1,18 @@
 -- The mask of the heirs tells which they are, and whether there is one.
-use mathlib.Core.Path.{_≡_, refl, sym, ap, ap₂, _∙_}
+use mathlib.Core.Path.{_≡_, refl, sym, ap, _∙_}
 use mathlib.Core.Bool.{Bool, true, false}
-use mathlib.Core.List.{List, [], _++_, append-nil, List·Memᴰ as Mem, List·Memᴰ·head as here, List·Memᴰ·tail as there}
-use Prim.Native.Nat.{ℕ, _+_, _^_, _≤_, _<_, zero, suc}
+use mathlib.Core.List.{List, [], append-nil, List·Memᴰ as Mem, List·Memᴰ·head as here, List·Memᴰ·tail as there}
+use Prim.Native.Nat.{ℕ, _≤_, _<_, zero, suc}
 use mathlib.Core.Logic.{_⊎_, inl, inr}
 use native.Mathlib.Nat.{lt-of-lt-of-le, zero-lt-suc}
-use native.Mathlib.Numerals.{add-one}
 use lib.ListN.{length}
-use native.Mathlib.Omega.{arith}
-use lib.Pow.{pow-mono, pow-pos}
+use lib.Pow.{pow-pos}
 use Rattle.table.specs.Lists.{consIf, each}
-use Rattle.table.proofs.Basics.{each-ext, each-i, false-test}
-use Rattle.panel.specs.Masks.{on, bitIf, bitsWhere}
+use Rattle.table.proofs.Basics.{each-ext, each-i, false-test, single-i}
+use Rattle.panel.specs.Masks.{on, bitsWhere}
 use Rattle.panel.proofs.Masks.{bits-lt, bits-on, bits-ext, same-bits, find, off-zero}
 use Rattle.panel.specs.Transitions.{state}
 use Rattle.panel.specs.Contacts.{candidate}
-use Rattle.panel.proofs.Words.{single-i}
 use Rattle.heirs.specs.Heirs.{heirBy, heirsIn, heirMask, picked}
 
 -- ---- the mask tells the heirs

@@ -1,6 +1,5 @@
 -- One pass over a part of a sheet finds the heirs of a hit rule: a candidate is barred by a rule that has its contact alone beyond the hit rule.
 use mathlib.Core.Path.{_≡_, refl, sym, ap, ap₂, _∙_}
-use mathlib.Core.Logic.{_⊎_, inl, inr}
 use mathlib.Core.Bool.{Bool, true, false, not, _&&_, _||_, false≢true}
 use mathlib.Core.List.{List, [], _∷_}
 use Prim.Native.Nat.{ℕ, _+_, _-_, _≤_, _<_}
@@ -12,7 +11,7 @@ use borrow.Author.Tests.{eqb-true}
 use lib.ListN.{length, drop, getD, drop-of-length-le}
 use lib.Seq.{drop-cons}
 use Rattle.table.specs.Lists.{any, all}
-use Rattle.table.proofs.Basics.{and-l, and-r, and-i, not-i, not-e, same-test, all-e, at-in}
+use Rattle.table.proofs.Basics.{and-l, and-r, and-i, not-i, not-e, same-test, all-e, at-in, or-assoc}
 use Rattle.panel.specs.Masks.{on, bitsWhere}
 use Rattle.panel.specs.Rules.{head, validRule, covers, narrows}
 use Rattle.panel.specs.Transitions.{state, rests, spared}
@@ -26,10 +25,6 @@ use Rattle.heirs.specs.Heirs.{blocked, heirBy, heirMask, nearAll}
 use Rattle.heirs.proofs.Take.{spared-miss}
 
 -- ---- the pass
-
-or-assoc : (x y z : Bool) → ((x || y) || z) ≡ (x || (y || z))
-or-assoc true y z = refl
-or-assoc false y z = refl
 
 or-false : (x : Bool) → x ≡ (x || false)
 or-false true = refl

@@ -12,11 +12,11 @@ use Rattle.panel.specs.Transitions.{state, spared}
 use Rattle.panel.specs.Contacts.{free, candidate}
 use Rattle.prime.specs.Sheets.{permits, takeSheet, addedCount}
 use Rattle.heirs.specs.Heirs.{heirsOf, heirsOfAll, takeSteps}
-use Rattle.table.proofs.Basics.{and-l, and-r, and-i, not-i, not-e, same-test, any-e, any-i, filter-e, filter-i, each-e, each-i}
+use Rattle.table.proofs.Basics.{and-l, and-r, and-i, not-i, not-e, same-test, any-e, any-i, filter-e, filter-i, each-e, each-i, single-e, single-i}
 use Rattle.table.proofs.Increasing.{filter-increasing, increasing-unique}
 use Rattle.table.proofs.Counting.{parted}
 use Rattle.table.proofs.Inserting.{insertAll-length, insertAll-e, insertAll-old, insertAll-new, insertAll-increasing, first-new, append-distinct, each-distinct, single-distinct, increasing-distinct}
-use Rattle.panel.proofs.Words.{narrows-refl, single-e, single-i}
+use Rattle.panel.proofs.Words.{narrows-refl}
 use Rattle.prime.proofs.Least.{Good, permits-e, permits-i}
 use Rattle.prime.proofs.Laws.{take-good}
 use Rattle.heirs.proofs.Take.{Kept, Heir, Candidacy, kept-i, heir-i, take-e, heir-new, heir-order}

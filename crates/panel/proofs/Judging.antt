@@ -1,5 +1,5 @@
 -- The tests on words as code makes them: one law for each way through an `if` or an `&&`.
-use mathlib.Core.Path.{_≡_, refl, sym, ap, ap₂, _∙_}
+use mathlib.Core.Path.{_≡_, sym, ap, ap₂, _∙_}
 use mathlib.Core.Bool.{Bool, true, false, not, _&&_}
 use Prim.Native.Nat.{ℕ, _+_, _*_, _^_, _≤_, _<_}
 use native.Mathlib.Omega.{arith}
@@ -7,7 +7,7 @@ use lib.Bits.{bitAnd}
 use lib.Dec.{eqb, ltb}
 use borrow.Author.Tests.{eq-eqb, ne-eqb, lt-ltb, le-ltb}
 use Rattle.table.proofs.Basics.{false-test}
-use Rattle.panel.specs.Masks.{on, allOff, within, apart}
+use Rattle.panel.specs.Masks.{on, within, apart}
 use Rattle.panel.specs.Rules.{head, mustOn, mustOff, validRule, covers, contains}
 use Rattle.panel.specs.Transitions.{state, next, observed, validTransition, rests, spared}
 use Rattle.panel.specs.Contacts.{free, contact, candidate}

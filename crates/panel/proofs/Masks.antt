@@ -53,9 +53,13 @@ bit-suc v x =
     ap (λ (y : ℕ). x / y % 2) (pow-suc 2 v ∙ mul-comm (2 ^ v) 2)
     ∙ ap (λ (y : ℕ). y % 2) (sym (div-div-eq-div-mul x 2 (2 ^ v)))
 
-bit-of-zero : (v : ℕ) → bit v 0 ≡ 0
+pub bit-of-zero : (v : ℕ) → bit v 0 ≡ 0
 bit-of-zero zero = bit-zero 0
 bit-of-zero (suc v) = bit-suc v 0 ∙ bit-of-zero v
+
+-- no relay is on in 0
+pub off-zero : (v : ℕ) → on v 0 ≡ false
+off-zero v = false-test (on v 0) (λ p. bit-off v 0 (bit-of-zero v) p)
 
 half-add : (v x : ℕ) → (x + 2 ^ suc v) / 2 ≡ x / 2 + 2 ^ v
 half-add v x = omega (arith, pow-suc 2 v)
@@ -210,10 +214,7 @@ not-apart n a b l h = go (find n (λ v. on v a && on v b))
 
 -- a bit on in a mask below 2^n is below n
 pub on-below : (n a v : ℕ) → a < 2 ^ n → on v a ≡ true → v < n
-on-below zero a v l p = absurd (zero-off v (subst (λ (x : ℕ). on v x ≡ true) (lt-one l) p))
-  where
-    zero-off : (u : ℕ) → on u 0 ≡ true → ⊥
-    zero-off u q = bit-off u 0 (bit-of-zero u) q
+on-below zero a v l p = absurd (false≢true (sym (off-zero v) ∙ subst (λ (x : ℕ). on v x ≡ true) (lt-one l) p))
 on-below (suc n) a zero l p = zero-lt-suc n
 on-below (suc n) a (suc v) l p = suc-le-suc (on-below n (a / 2) v (half-bound n a l) (sym (on-suc v a) ∙ p))
 
@@ -442,7 +443,3 @@ pub bits-ext : (n : ℕ) (f g : ℕ → Bool) → ((v : ℕ) → v < n → f v �
 unfolding bitsWhere
 bits-ext zero f g h = refl
 bits-ext (suc n) f g h = ap₂ (λ (a : ℕ) (b : Bool). a + bitIf b n) (bits-ext n f g (λ v l. h v (omega arith))) (h n (lt-suc-self n))
-
--- no relay is on in 0
-pub off-zero : (v : ℕ) → on v 0 ≡ false
-off-zero v = false-test (on v 0) (λ p. bit-off v 0 (bit-of-zero v) p)

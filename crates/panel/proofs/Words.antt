@@ -1,7 +1,7 @@
 -- Rule words: their fields, the list of all of them, and the order `narrows`.
 use mathlib.Core.Path.{_≡_, refl, sym, ap, ap₂, _∙_}
-use mathlib.Core.Bool.{Bool, true, false, _&&_, false≢true}
-use mathlib.Core.List.{[], List·Memᴰ as Mem, List·Memᴰ·head as here, List·Memᴰ·tail as there, List·Memᴰ·not-nil}
+use mathlib.Core.Bool.{Bool, true, _&&_}
+use mathlib.Core.List.{[], List·Memᴰ as Mem}
 use Prim.Native.Nat.{ℕ, _+_, _*_, _^_, _≤_, _<_}
 use native.Mathlib.Nat.{lt-of-lt-of-le}
 use native.Mathlib.Omega.{arith}
@@ -12,7 +12,7 @@ use borrow.Author.Tests.{eqb-true, eq-eqb, ltb-true, lt-ltb}
 use Rattle.table.specs.Lists.{consIf, each, increasing}
 use Rattle.panel.specs.Masks.{allOff, within, apart}
 use Rattle.panel.specs.Rules.{contains, ruleWord, head, mustOn, mustOff, validRule, Rule, covers, narrows, rules}
-use Rattle.table.proofs.Basics.{and-l, and-r, and-i, each-e, each-i}
+use Rattle.table.proofs.Basics.{and-l, and-r, and-i, each-e, each-i, single-e, single-i, single-increasing}
 use Rattle.table.proofs.Increasing.{each-increasing}
 use Rattle.panel.proofs.Codec as codec
 use Rattle.panel.proofs.Masks.{within-refl, within-trans, within-antisym, within-le, within-apart, allOn-within, allOff-apart, within-eq, eq-within}
@@ -212,19 +212,6 @@ narrows-covers w r i p q =
     })
 
 -- ---- the list of all rules
-
-pub single-e : {x y : ℕ} (b : Bool) → Mem x (consIf b y []) → (x ≡ y) × (b ≡ true)
-single-e true (here e) = (e, refl)
-single-e true (there m) = absurd (List·Memᴰ·not-nil m)
-single-e false m = absurd (List·Memᴰ·not-nil m)
-
-pub single-i : {x y : ℕ} (b : Bool) → x ≡ y → b ≡ true → Mem x (consIf b y [])
-single-i true e p = here e
-single-i false e p = absurd (false≢true p)
-
-pub single-increasing : (b : Bool) (y : ℕ) → increasing (consIf b y []) ≡ true
-single-increasing true y = refl
-single-increasing false y = refl
 
 pub rules-i : (n w : ℕ) → Rule n w → Mem w (rules n)
 unfolding rules

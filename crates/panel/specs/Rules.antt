@@ -1,10 +1,10 @@
 -- Rules: a head and a body, as one word; what a body covers, and when one contains another.
 use mathlib.Core.Path.{_≡_}
-use Prim.Native.Nat.{ℕ, _^_, _<_}
+use Prim.Native.Nat.{ℕ, _+_, _*_, _^_, _<_}
 use mathlib.Core.Bool.{Bool, true, _&&_}
 use mathlib.Core.List.{List, []}
 use lib.Dec.{eqb, ltb}
-use Rattle.table.specs.Lists.{each, consIf}
+use Rattle.table.specs.Lists.{each, consIf, between}
 use Rattle.panel.specs.Masks.{allOn, allOff, apart}
 use Rattle.panel.specs.Codec.{wordOf, high, middle, low}
 
@@ -50,3 +50,7 @@ narrows w r = eqb (head w) (head r) && contains w r
 -- all rules of a panel with n relays, in the order of their words
 unfoldable pub rules : ℕ → List ℕ
 rules n = each n (λ h. each (2 ^ n) (λ p. each (2 ^ n) (λ m. consIf (allOff p m) (ruleWord h p m) [])))
+
+-- the words of s that belong to the head h: its stretch
+unfoldable pub ofHead : ℕ → List ℕ → List ℕ
+ofHead h s = between (h * 1048576) ((h + 1) * 1048576) s

@@ -1,10 +1,10 @@
 -- The passes over a book or a sheet, turn by turn: judging good ones, and applying a sheet.
-use mathlib.Core.Path.{_≡_, refl, sym, ap, ap₂, _∙_, subst}
+use mathlib.Core.Path.{_≡_, refl, sym, ap, _∙_, subst}
 use mathlib.Core.Logic.{_⊎_, inl, inr}
 use mathlib.Core.Bool.{Bool, true, false, not, _&&_, _||_, and-assoc, and-true, and-false, or-false}
-use mathlib.Core.List.{List, [], _∷_, List·Memᴰ as Mem, List·Memᴰ·head as here, List·Memᴰ·tail as there, List·Memᴰ·cases-cons}
-use Prim.Native.Nat.{ℕ, zero, suc, _+_, _-_, _*_, _^_, _≤_, _<_}
-use native.Mathlib.Nat.{lt-of-lt-of-le, le-of-suc-le-suc, not-suc-le-zero}
+use mathlib.Core.List.{List, [], _∷_, List·Memᴰ as Mem, List·Memᴰ·cases-cons}
+use Prim.Native.Nat.{ℕ, zero, suc, _+_, _-_, _^_, _≤_, _<_}
+use native.Mathlib.Nat.{lt-of-lt-of-le}
 use native.Mathlib.Numerals.{add-one}
 use native.Mathlib.Omega.{arith}
 use lib.Bits.{bitOr, or-lt}
@@ -14,18 +14,18 @@ use lib.Seq.{drop-cons, take-all}
 use lib.Pow.{pow-pos, pow-lt, pow-mono}
 use borrow.Author.Tests.{eqb-true, eq-eqb}
 use Rattle.table.specs.Lists.{any, all, increasing}
-use Rattle.table.proofs.Basics.{and-l, and-r, and-i, or-l, or-r, or-e, not-e, false-test, same-test, any-e, any-i, all-e, either, at-in}
+use Rattle.table.proofs.Basics.{and-r, or-l, or-r, or-e, false-test, same-test, any-e, any-i, all-e, either, at-in, or-assoc}
 use Rattle.table.proofs.Increasing.{first-below, rest-increasing}
-use Rattle.table.proofs.Searching.{anyLeft, any-end, any-more, risesFrom, risesBy, risesLeft, rises-is, rises-start, increasing-rises}
+use Rattle.table.proofs.Searching.{anyLeft, risesBy, risesLeft, rises-is, rises-start, increasing-rises}
 use Rattle.panel.specs.Masks.{on}
 use Rattle.panel.specs.Rules.{ruleWord, head, validRule, covers, contains, narrows}
 use Rattle.panel.specs.Transitions.{state, validTransition}
-use Rattle.panel.proofs.Masks.{bit, same-bits, on-or-l, on-or-r, on-or-e, on-bit, bit-on, on-below, add-on, add-other, off-bit}
+use Rattle.panel.proofs.Masks.{bit, same-bits, on-or-l, on-or-r, on-or-e, on-bit, bit-on, add-on, add-other, bit-of-zero, off-zero}
 use Rattle.panel.proofs.Words.{head-up, rule-e, narrows-e, narrows-le, word-fields, mustOn-small, mustOff-small}
 use Rattle.panel.proofs.Transitions.{transition-e}
 use Rattle.prime.specs.Books.{statesUp, goodBook}
 use Rattle.prime.specs.Sheets.{antichain, goodSheet, pullsIn, applySheet, orBit, pulled}
-use Rattle.prime.proofs.Apply.{apply-lt, apply-on, pullsIn-e, pullsIn-i}
+use Rattle.prime.proofs.Apply.{apply-lt, apply-on}
 
 -- ---- a good book
 
@@ -173,10 +173,7 @@ pub record Applying (n : ℕ) (s : List ℕ) (x on′ k : ℕ) : Type 0 where
   pub told : (h : ℕ) → h < n → (on h on′ || pullsIn (drop k s) x h) ≡ pullsIn s x h
 
 pub applying-start : (n : ℕ) (s : List ℕ) (x : ℕ) → Applying n s x 0 0
-applying-start n s x = record { in-size = pow-pos n; told = λ h l. ap (λ (b : Bool). b || pullsIn s x h) (false-test (on h 0) (λ p. nothing h p)) }
-  where
-    nothing : (h : ℕ) → on h 0 ≡ true → ⊥
-    nothing h p = not-suc-le-zero (on-below 0 0 h (pow-pos 0) p)
+applying-start n s x = record { in-size = pow-pos n; told = λ h l. ap (λ (b : Bool). b || pullsIn s x h) (off-zero h) }
 
 pub rule-head : (n : ℕ) (s : List ℕ) → all (validRule n) s ≡ true → (k : ℕ) → k < length s → head (getD s k 0) < n
 rule-head n s v k l = rule-e n (getD s k 0) (all-e (validRule n) (at-in s k l) v) .head-lt
@@ -188,15 +185,12 @@ one-bit h g = same-test (on g (2 ^ h)) (eqb h g) (λ p. eq-eqb h g (go p (either
     plain : 0 + 2 ^ h ≡ 2 ^ h
     plain = omega arith
 
-    off : (u : ℕ) → bit u 0 ≡ 0
-    off u = off-bit u 0 (λ p. not-suc-le-zero (on-below 0 0 u (pow-pos 0) p))
-
     this : on h (2 ^ h) ≡ true
-    this = bit-on h (2 ^ h) (sym (ap (bit h) plain) ∙ add-on h 0 (off h))
+    this = bit-on h (2 ^ h) (sym (ap (bit h) plain) ∙ add-on h 0 (bit-of-zero h))
 
     go : on g (2 ^ h) ≡ true → (eqb h g ≡ true) ⊎ (eqb h g ≡ true → ⊥) → h ≡ g
     go p (inl e) = eqb-true h g e
-    go p (inr f) = absurd (omega (arith, on-bit g (2 ^ h) p, ap (bit g) plain, add-other g h 0 (λ e. f (eq-eqb h g (sym e))) (off h), off g))
+    go p (inr f) = absurd (omega (arith, on-bit g (2 ^ h) p, ap (bit g) plain, add-other g h 0 (λ e. f (eq-eqb h g (sym e))) (bit-of-zero h), bit-of-zero g))
 
 pub applying-more : (n : ℕ) (s : List ℕ) (x on′ k r : ℕ) → all (validRule n) s ≡ true → k < length s → Applying n s x on′ k → r ≡ pulled x (getD s k 0) on′ → Applying n s x r (k + 1)
 unfolding pulled pullsIn
@@ -211,10 +205,6 @@ applying-more n s x on′ k r v l a e = record {
     size : (b : Bool) → orBit b (head w) on′ < 2 ^ n
     size true = or-lt n on′ (2 ^ head w) (a .in-size) (pow-lt (rule-head n s v k l))
     size false = a .in-size
-
-    regroup : (p q r : Bool) → ((p || q) || r) ≡ (p || (q || r))
-    regroup true q r = refl
-    regroup false q r = refl
 
     or-is : (h : ℕ) → on h (bitOr on′ (2 ^ head w)) ≡ (on h on′ || eqb (head w) h)
     or-is h = same-test (on h (bitOr on′ (2 ^ head w))) (on h on′ || eqb (head w) h)
@@ -232,7 +222,7 @@ applying-more n s x on′ k r v l a e = record {
     bits : (h : ℕ) (b : Bool) → covers w x ≡ b → (on h (orBit b (head w) on′) || pullsIn (drop (suc k) s) x h) ≡ (on h on′ || pullsIn (drop k s) x h)
     bits h true c =
         ap (λ (z : Bool). z || pullsIn (drop (suc k) s) x h) (or-is h)
-        ∙ regroup (on h on′) (eqb (head w) h) (pullsIn (drop (suc k) s) x h)
+        ∙ or-assoc (on h on′) (eqb (head w) h) (pullsIn (drop (suc k) s) x h)
         ∙ ap (λ (z : Bool). on h on′ || z) (rw (drop-cons s k 0 l) (simp (c, and-true)))
     bits h false c = ap (λ (z : Bool). on h on′ || z) (rw (drop-cons s k 0 l) (simp (c, and-false)))
 

@@ -1,10 +1,10 @@
-// Good books and good sheets, judged; and what a sheet says of a state.
+// Good books and good sheets, judged; the stretch of a head; and what a sheet says of a state.
 ghost use mathlib.Core.Path.{_≡_};
 ghost use mathlib.Core.Bool.{Bool, true, _&&_};
 ghost use mathlib.Core.List.{_∷_};
 ghost use Prim.Native.Nat.{_≤_, _^_, _<_};
 ghost use Rattle.table.specs.Lists.{any, all, increasing};
-ghost use Rattle.panel.specs.Rules.{head, validRule, narrows};
+ghost use Rattle.panel.specs.Rules.{head, validRule, narrows, ofHead};
 ghost use Rattle.prime.specs.Books.{goodBook};
 ghost use Rattle.prime.specs.Sheets.{goodSheet, antichain, applySheet, pulled};
 
@@ -97,6 +97,16 @@ pub fn is_good_sheet(n: u32, sheet: &[u32]) -> bool
     } else {
         false
     }
+}
+
+// The rules of the sheet s whose head is h.
+pub fn stretch(s: &[u32], h: u32) -> &[u32]
+    requires { ⌜ (h < 10) × (increasing (now s) ≡ true) ⌝ }
+    ensures { λ r. ⌜ now r ≡ ofHead h (now (s .entry)) ⌝ }
+{
+    let from = table::place(s, h * 1048576);
+    let to = table::place(s, (h + 1) * 1048576);
+    &s[from..to]
 }
 
 // The relays that are on so far, and the head of w if its body covers x.

@@ -7,21 +7,21 @@ use Prim.Native.Nat.{ℕ, zero, suc, _+_, _-_, _^_, _≤_, _<_}
 use native.Mathlib.Nat.{le-of-lt, le-refl, lt-irrefl, not-suc-le-zero, eq-or-lt-of-le}
 use native.Mathlib.Numerals.{add-one}
 use native.Mathlib.Omega.{arith}
-use lib.ListN.{length, take, drop, getD}
+use lib.ListN.{length, take, drop}
 use lib.Seq.{length-take-le}
 use lib.Dec.{eqb, ltb}
 use borrow.Author.Tests.{eqb-true, eqb-false, ltb-true, ltb-false}
 use Rattle.table.specs.Lists.{consIf, pick, increasing, insert, insertAll, remove}
 use Rattle.table.specs.Surgery.{Holds}
 use Rattle.table.proofs.Basics.{false-test}
-use Rattle.table.proofs.Inserting.{insert-length, insertAll-length, insertAll-append, insert-if}
-use Rattle.table.proofs.Tables.{inserted-table, removed-table}
+use Rattle.table.proofs.Inserting.{insert-length, insertAll-append, insert-if}
+use Rattle.table.proofs.Tables.{inserted-table}
 use Rattle.panel.specs.Masks.{on}
 use Rattle.panel.proofs.Masks.{sub-off, sub-other}
 use Rattle.panel.specs.Transitions.{state, spared}
 use Rattle.panel.specs.Contacts.{candidate}
 use Rattle.heirs.specs.Heirs.{heirMask, picked}
-use Rattle.sheet.specs.Taking.{FirstOn, stays, planted, visited, Plantable, Visitable}
+use Rattle.sheet.specs.Taking.{FirstOn, stays, planted, visited, Plantable}
 
 -- the first words of a table that is as it was
 pub holds-same : (s : List ℕ) (have : ℕ) → have ≤ length s → Holds s have (length s) (take have s)
@@ -194,7 +194,7 @@ module _ (n mask u b i c d : ℕ) (s z : List ℕ) (have : ℕ) (f : FirstOn n m
 
 -- ---- a visit
 
-stays-def : (all : Bool) (n t b : ℕ) (tab : List ℕ) → stays all n t b tab ≡ (spared t b || not (all || eqb (heirMask n t b tab) 0))
+pub stays-def : (all : Bool) (n t b : ℕ) (tab : List ℕ) → stays all n t b tab ≡ (spared t b || not (all || eqb (heirMask n t b tab) 0))
 unfolding stays
 stays-def all n t b tab = refl
 

@@ -1,22 +1,22 @@
 -- Take in place, from the end of the table to its front and twice over: what holds on the way, and the new sheet at the end.
-use mathlib.Core.Path.{_≡_, refl, sym, ap, ap₂, _∙_, subst}
+use mathlib.Core.Path.{_≡_, refl, sym, ap, _∙_, subst}
 use mathlib.Core.Logic.{_⊎_, inl, inr}
 use mathlib.Core.Bool.{Bool, true, false, not, _||_, false≢true}
-use mathlib.Core.List.{List, [], _∷_, _++_, List·Memᴰ as Mem, List·Memᴰ·head as here, List·Memᴰ·tail as there, List·Memᴰ·not-nil, List·Memᴰ·cases-cons}
-use Prim.Native.Nat.{ℕ, zero, suc, _+_, _-_, _*_, _≤_, _<_}
+use mathlib.Core.List.{List, _++_, List·Memᴰ as Mem, List·Memᴰ·not-nil, List·Memᴰ·cases-cons}
+use Prim.Native.Nat.{ℕ, zero, suc, _+_, _-_, _≤_, _<_}
 use native.Mathlib.Nat.{not-suc-le-zero, le-refl}
 use native.Mathlib.Omega.{arith}
 use lib.ListN.{length, take, drop, getD, drop-of-length-le}
 use lib.Seq.{length-take-le, getD-take, drop-cons, drop-append-seam}
 use lib.Dec.{eqb}
-use borrow.Author.Tests.{eqb-true, eqb-false, eq-eqb}
+use borrow.Author.Tests.{eqb-true, eqb-false}
 use Rattle.table.specs.Lists.{filter, pick, increasing, insertAll, remove}
 use Rattle.table.specs.Surgery.{Holds}
-use Rattle.table.proofs.Basics.{either, false-test, at-in, each-front}
+use Rattle.table.proofs.Basics.{either, at-in, each-front}
 use Rattle.table.proofs.Inserting.{insertAll-length, insertAll-e}
 use Rattle.table.proofs.Sums.{sum, remove-e, remove-length}
-use Rattle.table.proofs.Tables.{remove-at, insertAll-past, before-below, mem-drop}
-use Rattle.panel.specs.Rules.{validRule, Rule}
+use Rattle.table.proofs.Tables.{remove-at, insertAll-past, before-below}
+use Rattle.panel.specs.Rules.{Rule}
 use Rattle.panel.specs.Transitions.{state, spared}
 use Rattle.panel.proofs.Words.{rule-i}
 use Rattle.panel.proofs.Candidates.{candidate-above}
@@ -29,6 +29,7 @@ use Rattle.heirs.proofs.Steps.{heirsOf-e}
 use Rattle.heirs.proofs.InPlace.{Progress, heir-spared, progress-start, progress-end, progress-step, heir-b, first-heirs-in-order, heirs-of-part, weight-step, weight-start, table-fits}
 use Rattle.heirs.proofs.Judging.{picked-heirs, picked-first, mask-none, mask-some}
 use Rattle.sheet.specs.Taking.{stays, planted, visited, Plantable, Visitable}
+use Rattle.sheet.proofs.Planting.{stays-def}
 
 -- ---- the invariant
 
@@ -67,10 +68,6 @@ ahead-visit len i (suc zero) p l = omega arith
 ahead-visit len i (suc (suc k)) p l = absurd (omega arith)
 
 -- ---- whether a rule stays
-
-stays-def : (all : Bool) (n t b : ℕ) (tab : List ℕ) → stays all n t b tab ≡ (spared t b || not (all || eqb (heirMask n t b tab) 0))
-unfolding stays
-stays-def all n t b tab = refl
 
 stays-no : (all : Bool) (n t b : ℕ) (tab : List ℕ) → stays all n t b tab ≡ false → (spared t b ≡ true → ⊥) × ((all || eqb (heirMask n t b tab) 0) ≡ true)
 stays-no all n t b tab e = go (spared t b) refl (all || eqb (heirMask n t b tab) 0) refl (sym (stays-def all n t b tab) ∙ e)

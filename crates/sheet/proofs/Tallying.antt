@@ -1,22 +1,22 @@
 -- Counting struck and added before anything is written.
-use mathlib.Core.Path.{_≡_, refl, sym, ap, ap₂, _∙_, subst}
+use mathlib.Core.Path.{_≡_, refl, sym, ap, ap₂, _∙_}
 use mathlib.Core.Bool.{Bool, true, false, not, false≢true}
-use mathlib.Core.List.{List, [], _∷_, _++_, List·Memᴰ as Mem}
-use Prim.Native.Nat.{ℕ, zero, suc, _+_, _-_, _*_, _≤_, _<_}
+use mathlib.Core.List.{List, [], List·Memᴰ as Mem}
+use Prim.Native.Nat.{ℕ, suc, _+_, _≤_, _<_}
 use native.Mathlib.Numerals.{add-one}
 use native.Mathlib.Omega.{arith}
 use lib.ListN.{length, drop, getD, drop-of-length-le, length-append}
 use lib.Seq.{drop-cons}
-use Rattle.table.specs.Lists.{filter, consIf, increasing}
+use Rattle.table.specs.Lists.{filter, consIf}
 use Rattle.table.proofs.Basics.{at-in}
 use Rattle.table.proofs.Tables.{increasing-short}
 use Rattle.panel.specs.Rules.{validRule}
 use Rattle.panel.specs.Transitions.{state, spared}
 use Rattle.panel.proofs.Words.{rule-i}
-use Rattle.prime.specs.Sheets.{goodSheet, takeSheet}
+use Rattle.prime.specs.Sheets.{goodSheet}
 use Rattle.prime.proofs.Least.{Good, good-e}
 use Rattle.prime.proofs.Passes.{rule-small}
-use Rattle.heirs.specs.Heirs.{heirsOf, heirsOfAll, heirsIn, heirMask, picked}
+use Rattle.heirs.specs.Heirs.{heirsOf, heirsOfAll, heirMask}
 use Rattle.heirs.proofs.Counts.{take-struck}
 use Rattle.heirs.proofs.Steps.{take-added-heirs}
 use Rattle.heirs.proofs.InPlace.{progress-start, heirs-of-part}

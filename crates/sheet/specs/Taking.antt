@@ -5,7 +5,7 @@ use mathlib.Core.List.{List}
 use Prim.Native.Nat.{ℕ, zero, suc, _+_, _*_, _≤_, _<_}
 use lib.Dec.{eqb}
 use lib.ListN.{length, take, drop, getD}
-use Rattle.table.specs.Lists.{filter, pick, increasing, insertAll, remove}
+use Rattle.table.specs.Lists.{oneIf, filter, pick, increasing, insertAll, remove}
 use Rattle.panel.specs.Masks.{on}
 use Rattle.panel.specs.Rules.{validRule}
 use Rattle.panel.specs.Transitions.{state, spared}
@@ -16,10 +16,6 @@ use Rattle.sheet.specs.declared.Tally.{Tally}
 -- what a take reports: the rules of the old sheet absent from the new, and the reverse
 unfoldable pub tallyOf : ℕ → List ℕ → ℕ → Tally
 tallyOf n s t = record { struck = struckCount s (takeSheet n s t); added = addedCount s (takeSheet n s t) }
-
-abbrev pub oneIf : Bool → ℕ
-oneIf true = 1
-oneIf false = 0
 
 -- how many relays below n are on in the mask
 unfoldable pub onCount : ℕ → ℕ → ℕ

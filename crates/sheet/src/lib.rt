@@ -13,7 +13,7 @@ ghost use Rattle.panel.specs.Transitions.{state, spared};
 ghost use Rattle.panel.specs.Contacts.{candidate};
 ghost use Rattle.prime.specs.Sheets.{goodSheet, freshSheet, takeSheet};
 ghost use Rattle.heirs.specs.Heirs.{heirMask, picked};
-ghost use Rattle.sheet.specs.Taking.{tallyOf, Tallying, onCount, oneIf, FirstOn, planted, visited, Plantable, Visitable};
+ghost use Rattle.sheet.specs.Taking.{tallyOf, Tallying, onCount, FirstOn, planted, visited, Plantable, Visitable};
 
 // What a take strikes and adds.
 pub struct Tally {
@@ -26,16 +26,8 @@ pub fn heirs_of(sheet: &[u32], n: u32, t: u32, b: u32) -> u32
     requires { ⌜ (n ≤ 10) × (increasing (now sheet) ≡ true) × (validRule n b ≡ true) × (spared t b ≡ false) ⌝ }
     ensures { λ r. ⌜ r ≡ heirMask n t b (now (sheet .entry)) ⌝ }
 {
-    let first = panel::head_of(b) * 1048576;
-    let a = table::place(sheet, first);
-    let e = table::place(sheet, first + 1048576);
-    heirs::heir_mask(&sheet[a..e], n, t, b)
-}
-
-fn one_if(x: bool) -> usize
-    ensures { λ r. ⌜ (r ≡ oneIf x) × (r ≤ 1) ⌝ }
-{
-    if x { 1 } else { 0 }
+    let part = prime::stretch(sheet, panel::head_of(b));
+    heirs::heir_mask(part, n, t, b)
 }
 
 // How many relays below n are on in the mask.
@@ -46,7 +38,7 @@ fn count_on(n: u32, mask: u32) -> usize
     let mut k: usize = 0;
     let mut v: u32 = 0;
     while v < n {
-        k += one_if(panel::is_on(v, mask));
+        k += table::one_if(panel::is_on(v, mask));
         v += 1;
     }
     k

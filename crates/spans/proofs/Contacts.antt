@@ -2,15 +2,15 @@
 use mathlib.Core.Path.{_≡_, sym, ap, ap₂, _∙_, subst}
 use mathlib.Core.Logic.{_⊎_, inl, inr}
 use mathlib.Core.Bool.{Bool, true, false}
-use Prim.Native.Nat.{ℕ, zero, suc, _+_, _-_, _*_, _/_, _%_, _^_, _≤_, _<_}
-use native.Mathlib.Nat.{pow-suc, lt-of-le-of-lt}
+use Prim.Native.Nat.{ℕ, _+_, _-_, _*_, _/_, _%_, _^_, _≤_, _<_}
+use native.Mathlib.Nat.{lt-of-le-of-lt}
 use native.Mathlib.Omega.{arith}
 use lib.Pow.{pow-pos}
 use Rattle.table.proofs.Basics.{either, false-test}
 use Rattle.panel.specs.Masks.{on, within, apart}
 use Rattle.panel.specs.Rules.{ruleWord, head, mustOn, mustOff, narrows, Rule}
 use Rattle.panel.specs.Contacts.{free, contact, candidate}
-use Rattle.panel.proofs.Masks.{on-le, sub-off, within-on, within-apart, apart-comm, apart-on, on-within, not-within}
+use Rattle.panel.proofs.Masks.{on-le, sub-off, within-on, within-apart, apart-comm, apart-on, on-within, not-within, off-zero}
 use Rattle.panel.proofs.Words.{Narrows, narrows-e, narrows-i, ruleWord-is, word-fields, rule-fields, mask-small}
 use Rattle.panel.proofs.Candidates.{add-keeps, free-mustOn, free-mustOff, free-i, added}
 use Rattle.spans.specs.Fewer.{pickWord, without}
@@ -61,9 +61,6 @@ pub record Lesser (n w v x : ℕ) : Type 0 where
   pub back : candidate x v seen ≡ w
 
 module _ (n : ℕ) (small : n ≤ 10) (w : ℕ) (rr : Rule n w) (v : ℕ) where
-  on-zero : on v 0 ≡ false
-  on-zero = false-test (on v 0) (λ e. omega (arith, on-le v 0 e, pow-pos v))
-
   lesser-on : on v (mustOn w) ≡ true → Lesser n w v (w - 2 ^ v * 1024)
   unfolding candidate
   lesser-on p =
@@ -84,7 +81,7 @@ module _ (n : ℕ) (small : n ≤ 10) (w : ℕ) (rr : Rule n w) (v : ℕ) where
             (λ q. apart-on (mustOn w) (mustOff w) v (rr .disjoint) p (sym (ap (on v) (f .2)) ∙ q));
         below = omega (arith, room-on w v p, pow-pos v);
         seen = 0;
-        back = ap (λ (b : Bool). w - 2 ^ v * 1024 + contact b v) on-zero ∙ omega (arith, room-on w v p);
+        back = ap (λ (b : Bool). w - 2 ^ v * 1024 + contact b v) (off-zero v) ∙ omega (arith, room-on w v p);
       }
 
   lesser-off : on v (mustOff w) ≡ true → Lesser n w v (w - 2 ^ v)

@@ -5,12 +5,13 @@ use mathlib.Core.List.{List, _++_}
 use Prim.Native.Nat.{ℕ, _+_, _*_, _≤_, _<_}
 use native.Mathlib.Omega.{arith}
 use lib.ListN.{length, take, drop, length-append}
-use Rattle.panel.specs.Rules.{head}
+use Rattle.table.specs.Lists.{between}
+use Rattle.table.proofs.Between.{between-e, between-i, between-increasing, between-unique, between-none, between-whole, between-split}
+use Rattle.panel.specs.Rules.{head, ofHead}
 use Rattle.panel.proofs.Words.{head-range, range-head, narrows-e}
 use Rattle.prime.specs.Sheets.{sheetWhere}
 use Rattle.prime.proofs.Least.{Least, member-e, member-i, sheet-increasing}
-use Rattle.spans.specs.Parts.{between, ofHead, over, Laid}
-use Rattle.spans.proofs.Parts.{between-e, between-i, between-increasing, between-unique, between-none, between-whole, between-split}
+use Rattle.spans.specs.Parts.{over, Laid}
 use Rattle.spans.proofs.Overwriting.{over-over, over-length, laid}
 use Rattle.spans.proofs.Walking.{Counted, Written}
 

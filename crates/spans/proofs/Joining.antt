@@ -2,17 +2,16 @@
 use mathlib.Core.Path.{_≡_, refl, sym, ap, ap₂, _∙_}
 use mathlib.Core.Bool.{Bool, false, _&&_, false≢true}
 use mathlib.Core.List.{List, [], _∷_}
-use Prim.Native.Nat.{ℕ, _+_, _*_, _≤_}
+use Prim.Native.Nat.{ℕ, _≤_}
 use native.Mathlib.Omega.{arith}
 use lib.ListN.{length}
 use Rattle.table.proofs.Basics.{same-test, and-r}
-use Rattle.panel.specs.Rules.{head}
-use Rattle.panel.proofs.Words.{head-range, range-head, narrows-e}
+use Rattle.panel.specs.Rules.{head, ofHead}
+use Rattle.panel.proofs.Words.{narrows-e}
+use Rattle.panel.proofs.Stretches.{stretch-e, stretch-i}
 use Rattle.prime.specs.Sheets.{sheetWhere, permits, joinSheet}
 use Rattle.prime.proofs.Least.{permits-e, permits-i}
-use Rattle.spans.specs.Parts.{between, ofHead}
 use Rattle.spans.specs.Touching.{bothPermit, touches, bothTouch}
-use Rattle.spans.proofs.Parts.{between-e, between-i}
 use Rattle.spans.proofs.Touching.{touches-permits}
 use Rattle.spans.proofs.Heads.{head-ext, head-none}
 
@@ -29,21 +28,16 @@ join-room n s t k h = rw join-permit h
 
 -- a head's bodies are permitted by the rules of that head alone
 permits-head : (h : ℕ) (s : List ℕ) (w : ℕ) → head w ≡ h → permits (ofHead h s) w ≡ permits s w
-unfolding ofHead
 permits-head h s w e =
-    same-test (permits (between (h * 1048576) ((h + 1) * 1048576) s) w) (permits s w)
-    (λ p. let k = permits-e (between (h * 1048576) ((h + 1) * 1048576) s) w p in
-    permits-i s w (between-e (h * 1048576) ((h + 1) * 1048576) s (k .0) (k .1) .0) (k .2))
-    (λ p. let k = permits-e s w p in
-    let r = head-range h (k .0) (sym (narrows-e w (k .0) (k .2) .one-head) ∙ e) in
-    permits-i (between (h * 1048576) ((h + 1) * 1048576) s) w (between-i (h * 1048576) ((h + 1) * 1048576) s (k .0) (k .1) (r .0) (r .1)) (k .2))
+    same-test (permits (ofHead h s) w) (permits s w)
+    (λ p. let k = permits-e (ofHead h s) w p in permits-i s w (stretch-e h s (k .0) (k .1) .0) (k .2))
+    (λ p. let k = permits-e s w p in permits-i (ofHead h s) w (stretch-i h s (k .0) (k .1) (sym (narrows-e w (k .0) (k .2) .one-head) ∙ e)) (k .2))
 
 -- the stretch of a head touches what the sheet permits
 touches-head : (h : ℕ) (s s′ : List ℕ) → s′ ≡ ofHead h s → (w : ℕ) → head w ≡ h → touches s′ w ≡ permits s w
-unfolding ofHead
 touches-head h s s′ es w e =
     ap (λ (x : List ℕ). touches x w) es
-    ∙ touches-permits (ofHead h s) w (λ r m. let k = between-e (h * 1048576) ((h + 1) * 1048576) s r m in e ∙ sym (range-head h r (k .1) (k .2)))
+    ∙ touches-permits (ofHead h s) w (λ r m. e ∙ sym (stretch-e h s r m .1))
     ∙ permits-head h s w e
 
 -- the stretches of a head do for the whole sheets, and the quick test for `permits`

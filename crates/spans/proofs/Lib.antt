@@ -1,11 +1,9 @@
-pub mod Parts
 pub mod Overwriting
 pub mod Contacts
 pub mod Fewer
 pub mod NextMask
 pub mod Steps
 pub mod Walking
-pub mod Stretches
 pub mod Heads
 pub mod Touching
 pub mod Joining

@@ -7,8 +7,8 @@ use native.Mathlib.Nat.{le-of-suc-le-suc, not-suc-le-zero}
 use native.Mathlib.Omega.{arith}
 use lib.ListN.{length, take, drop, set, length-append, length-drop, drop-of-length-le}
 use lib.Seq.{drop-append-seam, take-append-seam, drop-drop, take-all}
-use Rattle.table.specs.Lists.{consIf}
-use Rattle.spans.specs.Parts.{oneIf, over, putIf, Laid}
+use Rattle.table.specs.Lists.{consIf, oneIf}
+use Rattle.spans.specs.Parts.{over, putIf, Laid}
 
 pub over-length : (xs s : List ℕ) → length xs ≤ length s → length (over xs s) ≡ length s
 unfolding over

@@ -5,7 +5,7 @@ use Prim.Native.Nat.{ℕ, _+_, _-_, _*_, _/_, _%_, _^_, _≤_, _<_}
 use native.Mathlib.Omega.{arith}
 use lib.Bits.{bitAnd, and-zero-r, and-le-r}
 use lib.Pow.{pow-pos}
-use Rattle.panel.specs.Rules.{ruleWord, head, mustOn, mustOff, Rule}
+use Rattle.panel.specs.Rules.{head, mustOn, mustOff, Rule}
 use Rattle.panel.specs.Masks.{apart}
 use Rattle.panel.proofs.Masks.{apart-eq, eq-apart, apart-comm}
 use Rattle.panel.proofs.Words.{ruleWord-is, word-fields, rule-fields, mustOn-small, mustOff-small, mask-small}

@@ -1,9 +1,8 @@
 -- The quick test inside one head: a rule permits a word when all its bits are on there.
-use mathlib.Core.Path.{_≡_, ap, ap₂, _∙_}
+use mathlib.Core.Path.{_≡_}
 use mathlib.Core.Bool.{Bool, true, false}
 use mathlib.Core.List.{List, List·Memᴰ as Mem}
-use Prim.Native.Nat.{ℕ, _+_, _*_, _<_}
-use native.Mathlib.Omega.{arith}
+use Prim.Native.Nat.{ℕ}
 use lib.Bits.{bitAnd}
 use Rattle.table.specs.Lists.{any}
 use Rattle.table.proofs.Basics.{same-test, false-test, any-e, any-i}

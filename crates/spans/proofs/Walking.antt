@@ -1,20 +1,20 @@
 -- The turns of a walk through one head, for any test: what is counted or written so far is the part of the sheet below the word that is reached.
 use mathlib.Core.Path.{_≡_, refl, sym, ap, ap₂, _∙_, subst}
-use mathlib.Core.Bool.{Bool, true, false}
+use mathlib.Core.Bool.{Bool, true}
 use mathlib.Core.List.{List, [], _++_}
 use Prim.Native.Nat.{ℕ, _+_, _*_, _≤_, _<_}
 use native.Mathlib.Omega.{arith}
 use lib.ListN.{length, length-append}
-use Rattle.table.specs.Lists.{consIf, has}
-use Rattle.table.proofs.Basics.{same-test}
+use Rattle.table.specs.Lists.{consIf, oneIf, between, has}
+use Rattle.table.proofs.Basics.{same-test, one-length, one-le}
 use Rattle.table.proofs.Counting.{has-e, has-i}
-use Rattle.panel.specs.Rules.{head, Rule}
+use Rattle.table.proofs.Between.{between-empty, between-split, between-more}
+use Rattle.panel.specs.Rules.{head, Rule, ofHead}
 use Rattle.panel.proofs.Words.{range-head}
 use Rattle.prime.specs.Sheets.{least, sheetWhere}
 use Rattle.prime.proofs.Least.{least-e, least-i, member-e, member-i, sheet-increasing}
-use Rattle.spans.specs.Parts.{oneIf, between, over, putIf, ofHead}
+use Rattle.spans.specs.Parts.{over, putIf}
 use Rattle.spans.specs.Steps.{Spot, Next}
-use Rattle.spans.proofs.Parts.{between-empty, between-split, between-more}
 use Rattle.spans.proofs.Overwriting.{over-length, over-put, over-nil}
 use Rattle.spans.proofs.Steps.{spot-start}
 
@@ -37,14 +37,6 @@ pub record Counted (s : List ℕ) (lo w k : ℕ) : Type 0 where
 module _ (n : ℕ) (small : n ≤ 10) (q : ℕ → Bool) (lo : ℕ) where
   pub counted-start : Counted (sheetWhere n q) lo lo 0
   counted-start = record { is = sym (ap length (between-empty (sheetWhere n q) lo (sheet-increasing n small q))); few = omega arith }
-
-  one-length : (b : Bool) (w : ℕ) → length (consIf b w []) ≡ oneIf b
-  one-length true w = refl
-  one-length false w = refl
-
-  one-le : (b : Bool) → oneIf b ≤ 1
-  one-le true = omega arith
-  one-le false = omega arith
 
   -- the part below r is the part below w and perhaps w
   step : (w r : ℕ) → lo ≤ w → Next n w r → between lo r (sheetWhere n q) ≡ between lo w (sheetWhere n q) ++ consIf (has w (sheetWhere n q)) w []
@@ -101,7 +93,7 @@ module _ (n : ℕ) (small : n ≤ 10) (q : ℕ → Bool) (lo : ℕ) where
     next-length =
         ap length (step n small q lo w r (c .from) nx)
         ∙ length-append (between lo w (sheetWhere n q)) (consIf (has w (sheetWhere n q)) w [])
-        ∙ ap₂ (λ (i j : ℕ). i + j) (sym (c .place)) (one-length n small q lo (has w (sheetWhere n q)) w ∙ ap oneIf (sym eb))
+        ∙ ap₂ (λ (i j : ℕ). i + j) (sym (c .place)) (one-length (has w (sheetWhere n q)) w ∙ ap oneIf (sym eb))
 
     next-fits : at + oneIf b ≤ length old
     next-fits = omega (arith, next-length, part-le r hi (omega (arith, c .from, nx .above)) k, room)

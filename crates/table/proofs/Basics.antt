@@ -2,12 +2,12 @@
 use mathlib.Core.Path.{_≡_, refl, sym, ap, _∙_, subst, ap₂}
 use mathlib.Core.Logic.{_⊎_, inl, inr}
 use mathlib.Core.Bool.{Bool, true, false, not, _&&_, _||_, false≢true}
-use mathlib.Core.List.{List, [], _∷_, List·Memᴰ as Mem, List·Memᴰ·head as here, List·Memᴰ·tail as there, List·Memᴰ·append-cases, Memᴰ·append-left, Memᴰ·append-right, _++_, append-nil, append-assoc}
+use mathlib.Core.List.{List, [], _∷_, List·Memᴰ as Mem, List·Memᴰ·head as here, List·Memᴰ·tail as there, List·Memᴰ·not-nil, List·Memᴰ·append-cases, Memᴰ·append-left, Memᴰ·append-right, _++_, append-nil, append-assoc}
 use Prim.Native.Nat.{ℕ, zero, suc, _<_, _≤_}
 use native.Mathlib.Nat.{le-of-suc-le-suc, not-suc-le-zero, eq-or-lt-of-le, lt-suc-self}
 use native.Mathlib.Omega.{arith}
 use lib.ListN.{length, getD}
-use Rattle.table.specs.Lists.{any, all, consIf, filter, each}
+use Rattle.table.specs.Lists.{any, all, consIf, oneIf, filter, each, increasing}
 
 -- ---- tests
 
@@ -34,6 +34,10 @@ or-l false b e = absurd (false≢true e)
 pub or-r : (a b : Bool) → b ≡ true → (a || b) ≡ true
 or-r true b e = refl
 or-r false b e = e
+
+pub or-assoc : (a b c : Bool) → ((a || b) || c) ≡ (a || (b || c))
+or-assoc true b c = refl
+or-assoc false b c = refl
 
 pub not-i : (a : Bool) → (a ≡ true → ⊥) → not a ≡ true
 not-i true f = absurd (f refl)
@@ -98,6 +102,29 @@ consIf-there false y m = m
 consIf-here : {x : ℕ} (b : Bool) (y : ℕ) (ys : List ℕ) → x ≡ y → b ≡ true → Mem x (consIf b y ys)
 consIf-here true y ys e p = here e
 consIf-here false y ys e p = absurd (false≢true p)
+
+-- a list of one element, or of none
+
+pub single-e : {x y : ℕ} (b : Bool) → Mem x (consIf b y []) → (x ≡ y) × (b ≡ true)
+single-e true (here e) = (e, refl)
+single-e true (there m) = absurd (List·Memᴰ·not-nil m)
+single-e false m = absurd (List·Memᴰ·not-nil m)
+
+pub single-i : {x y : ℕ} (b : Bool) → x ≡ y → b ≡ true → Mem x (consIf b y [])
+single-i true e p = here e
+single-i false e p = absurd (false≢true p)
+
+pub single-increasing : (b : Bool) (y : ℕ) → increasing (consIf b y []) ≡ true
+single-increasing true y = refl
+single-increasing false y = refl
+
+pub one-length : (b : Bool) (x : ℕ) → length (consIf b x []) ≡ oneIf b
+one-length true x = refl
+one-length false x = refl
+
+pub one-le : (b : Bool) → oneIf b ≤ 1
+one-le true = omega arith
+one-le false = omega arith
 
 pub filter-e : (f : ℕ → Bool) (s : List ℕ) {x : ℕ} → Mem x (filter f s) → Mem x s × (f x ≡ true)
 filter-e f [] m = elim m [ ]

@@ -6,3 +6,4 @@ pub mod Sums
 pub mod Shifting
 pub mod Searching
 pub mod Tables
+pub mod Between

@@ -1,22 +1,22 @@
--- Tables in a slice: a word put in or taken out, the stretch between two places, and how long a table can be.
+-- Tables in a slice: a word put in or taken out, places in order, and how long a table can be.
 use mathlib.Core.Path.{_≡_, refl, sym, ap, ap₂, _∙_, subst}
 use mathlib.Core.Logic.{_⊎_, inl, inr}
 use mathlib.Core.Bool.{Bool, true, false, not}
 use mathlib.Core.List.{List, [], _∷_, _++_, append-assoc, List·Memᴰ as Mem, List·Memᴰ·head as here, List·Memᴰ·tail as there, List·Memᴰ·not-nil}
-use Prim.Native.Nat.{ℕ, zero, suc, _+_, _-_, _≤_, _<_, suc-le-suc, min}
+use Prim.Native.Nat.{ℕ, zero, suc, _+_, _-_, _≤_, _<_, suc-le-suc}
 use native.Mathlib.Nat.{le-of-suc-le-suc, not-suc-le-zero, zero-lt-suc, lt-irrefl, le-refl}
 use native.Mathlib.Numerals.{add-one}
 use native.Mathlib.Omega.{arith}
-use lib.ListN.{length, take, drop, getD, replicate, length-append, length-take, length-drop, take-append-drop}
-use lib.Seq.{take-at, take-take, length-take-le, getD-take, getD-drop, drop-drop, drop-append-le, take-append-le}
-use lib.Dec.{eqb, ltb}
-use borrow.Author.Tests.{eq-eqb, ne-eqb, lt-ltb, ltb-true, ltb-false}
+use lib.ListN.{length, take, drop, getD, replicate, length-append, length-drop, take-append-drop}
+use lib.Seq.{take-at, take-take, length-take-le, getD-take, drop-drop, drop-append-le, take-append-le}
+use lib.Dec.{ltb}
+use borrow.Author.Tests.{eq-eqb, ne-eqb, lt-ltb, ltb-true}
 use Rattle.table.specs.Lists.{consIf, pick, increasing, insert, insertAll, remove}
 use Rattle.table.specs.Surgery.{removedAt, movedAt, placeOf, oneMoreIf, clearedFrom, filled, Holds}
 use Rattle.table.proofs.Basics.{at-in}
 use Rattle.table.proofs.Increasing.{first-below, rest-increasing}
 use Rattle.table.proofs.Inserting.{insert-length}
-use Rattle.table.proofs.Shifting.{slice-take, place-above, place-below, insert-place}
+use Rattle.table.proofs.Shifting.{slice-take, place-above, insert-place}
 
 -- ---- members of parts
 
@@ -181,7 +181,7 @@ replaced-table s e count at to w l h i b p k q =
     ∙ moved-front to at w tab (drop count s) (replace-above s count at to w l h i b p) k
     ∙ ap (λ (r : List ℕ). r ++ drop count s) (replaced-list tab to at w i (omega (arith, n)) low p ∙ ap (λ (x : ℕ). insert w (remove x tab)) g)
 
--- ---- the stretch between two places
+-- ---- places in order
 
 pub place-up : (lo hi : ℕ) (s : List ℕ) → lo ≤ hi → placeOf lo s ≤ placeOf hi s
 place-up lo hi [] l = le-refl 0
@@ -190,53 +190,6 @@ place-up lo hi (x ∷ xs) l = go (ltb x lo) refl (place-up lo hi xs l)
     go : (b : Bool) → ltb x lo ≡ b → placeOf lo xs ≤ placeOf hi xs → oneMoreIf b (placeOf lo xs) ≤ oneMoreIf (ltb x hi) (placeOf hi xs)
     go true e p = rw (lt-ltb x hi (omega (arith, ltb-true x lo e))) (suc-le-suc p)
     go false e p = omega arith
-
-pub stretch-in : (a e : ℕ) (s : List ℕ) {x : ℕ} → Mem x (take (e - a) (drop a s)) → Mem x s
-stretch-in a e s m = mem-drop a s (mem-take (e - a) (drop a s) m)
-
-at-stretch : (a e p : ℕ) (s : List ℕ) → a ≤ p → p < e → e ≤ length s → Mem (getD s p 0) (take (e - a) (drop a s))
-at-stretch a e p s l k h =
-    let q : p - a < e - a = omega arith in
-    let n₁ : length (take (e - a) (drop a s)) ≡ e - a = length-take-le (e - a) (drop a s) (omega (arith, length-drop a s)) in
-    let w : a + (p - a) ≡ p = omega arith in
-    subst (λ (x : ℕ). Mem x (take (e - a) (drop a s)))
-    (getD-take (e - a) (drop a s) (p - a) 0 q ∙ getD-drop a s (p - a) 0 ∙ ap (λ (z : ℕ). getD s z 0) w)
-    (at-in (take (e - a) (drop a s)) (p - a) (omega (arith, n₁)))
-
--- the words from lo on and below hi stand from the place of lo to the place of hi
-pub in-stretch : (lo hi a e : ℕ) (s : List ℕ) → increasing s ≡ true → a ≡ placeOf lo s → e ≡ placeOf hi s → e ≤ length s
-    → {x : ℕ} → Mem x s → lo ≤ x → x < hi → Mem x (take (e - a) (drop a s))
-in-stretch lo hi a e s i ea ee le {x} m l h =
-    let k = in-at m in
-    let p = k .0 in
-    subst (λ (y : ℕ). Mem y (take (e - a) (drop a s))) (k .2)
-    (at-stretch a e p s (omega (arith, ea, place-below lo s p (k .1) (omega (arith, k .2)))) (omega (arith, ee, place-above hi s p i (k .1) (omega (arith, k .2)))) le)
-
--- and all that stand there are from lo on and below hi
-pub stretch-between : (lo hi a e : ℕ) (s : List ℕ) → increasing s ≡ true → a ≡ placeOf lo s → e ≡ placeOf hi s → e ≤ length s
-    → {x : ℕ} → Mem x (take (e - a) (drop a s)) → (lo ≤ x) × (x < hi)
-stretch-between lo hi a e s i ea ee le {x} m =
-    let k = in-at m in
-    let n : length (take (e - a) (drop a s)) ≡ min (e - a) (length (drop a s)) = length-take (e - a) (drop a s) in
-    let p : a + k .0 < e = omega (arith, k .1, n) in
-    let g : getD s (a + k .0) 0 ≡ x = sym (getD-take (e - a) (drop a s) (k .0) 0 (omega (arith, p)) ∙ getD-drop a s (k .0) 0) ∙ k .2 in (
-      passes-le lo x (λ l. omega (arith, ea, place-above lo s (a + k .0) i (omega (arith, p, le)) (omega (arith, g, l)))),
-      passes-lt x hi (λ l. omega (arith, ee, p, place-below hi s (a + k .0) (omega (arith, p, le)) (omega (arith, g, l)))),
-    )
-  where
-    passes-le : (b x : ℕ) → (x < b → ⊥) → b ≤ x
-    passes-le b x f = go (ltb x b) refl
-      where
-        go : (t : Bool) → ltb x b ≡ t → b ≤ x
-        go true q = absurd (f (ltb-true x b q))
-        go false q = ltb-false x b q
-
-    passes-lt : (x b : ℕ) → (b ≤ x → ⊥) → x < b
-    passes-lt x b f = go (ltb x b) refl
-      where
-        go : (t : Bool) → ltb x b ≡ t → x < b
-        go true q = ltb-true x b q
-        go false q = absurd (f (ltb-false x b q))
 
 -- ---- an increasing list of small numbers is short
 

@@ -2,7 +2,7 @@
 use Prim.Native.Nat.{ℕ, zero, suc}
 use mathlib.Core.Bool.{Bool, true, false, not, _&&_, _||_}
 use mathlib.Core.List.{List, [], _∷_, _++_}
-use lib.Dec.{ltb, eqb}
+use lib.Dec.{ltb, leb, eqb}
 use lib.ListN.{length}
 
 -- the test f passes at some element
@@ -20,6 +20,11 @@ abbrev pub consIf : Bool → ℕ → List ℕ → List ℕ
 consIf true x xs = x ∷ xs
 consIf false x xs = xs
 
+-- 1 where the test passes, else 0
+abbrev pub oneIf : Bool → ℕ
+oneIf true = 1
+oneIf false = 0
+
 -- the elements at which f passes, in the order of the list
 abbrev pub filter : (ℕ → Bool) → List ℕ → List ℕ
 filter f [] = []
@@ -34,6 +39,10 @@ each (suc k) f = each k f ++ f k
 abbrev pub increasing : List ℕ → Bool
 increasing [] = true
 increasing (x ∷ xs) = all (ltb x) xs && increasing xs
+
+-- the elements of s from lo on and below hi
+unfoldable pub between : ℕ → ℕ → List ℕ → List ℕ
+between lo hi s = filter (λ w. leb lo w && ltb w hi) s
 
 -- x is an element of xs
 unfoldable pub has : ℕ → List ℕ → Bool

@@ -4,10 +4,10 @@ ghost use mathlib.Core.Bool.{true};
 ghost use mathlib.Core.List.{_++_};
 ghost use Prim.Native.Nat.{_+_, _<_, _≤_};
 ghost use lib.ListN.{length, take, drop};
-ghost use Rattle.table.specs.Lists.{has, increasing};
-ghost use Rattle.panel.specs.Rules.{head};
+ghost use Rattle.table.specs.Lists.{has, oneIf};
+ghost use Rattle.panel.specs.Rules.{head, ofHead};
 ghost use Rattle.prime.specs.Sheets.{sheetWhere, joinSheet, goodSheet};
-ghost use Rattle.spans.specs.Parts.{ofHead, over, oneIf, putIf, Laid};
+ghost use Rattle.spans.specs.Parts.{over, putIf, Laid};
 ghost use Rattle.spans.specs.Fewer.{without, smaller};
 ghost use Rattle.spans.specs.Steps.{Spot, Next};
 ghost use Rattle.spans.specs.Touching.{touches, bothTouch};
@@ -44,12 +44,6 @@ fn next_word(n: u32, w: u32) -> u32
         return w - m + 1024;
     }
     (panel::head_of(w) + 1) * 1048576
-}
-
-fn one_if(keep: bool) -> usize
-    ensures { λ r. ⌜ (r ≡ oneIf keep) × (r ≤ 1) ⌝ }
-{
-    if keep { 1 } else { 0 }
 }
 
 // Writes w at the place if it is kept, and gives the next place.
@@ -132,7 +126,7 @@ fn count_head(n: u32, h: u32, a: &[u32], b: &[u32]) -> usize
     let mut w = h * 1048576;
     let mut k: usize = 0;
     while w < end {
-        k += one_if(is_kept(n, a, b, w));
+        k += table::one_if(is_kept(n, a, b, w));
         w = next_word(n, w);
     }
     k
@@ -170,16 +164,6 @@ fn write_head_at(n: u32, h: u32, a: &[u32], b: &[u32], out: &mut [u32], at: usiz
 
 // ---- join: of both sheets only the stretch of the head is looked at
 
-// The rules of the sheet s whose head is h.
-fn stretch(s: &[u32], h: u32) -> &[u32]
-    requires { ⌜ (h < 10) × (increasing (now s) ≡ true) ⌝ }
-    ensures { λ r. ⌜ now r ≡ ofHead h (now (s .entry)) ⌝ }
-{
-    let from = table::place(s, h * 1048576);
-    let to = table::place(s, (h + 1) * 1048576);
-    &s[from..to]
-}
-
 // How many rules the join of two good sheets has.
 pub fn count_join(n: u32, a: &[u32], b: &[u32]) -> usize
     requires { ⌜ (n ≤ 10) × (goodSheet n (now a) ≡ true) × (goodSheet n (now b) ≡ true) ⌝ }
@@ -188,7 +172,7 @@ pub fn count_join(n: u32, a: &[u32], b: &[u32]) -> usize
     let mut h = 0;
     let mut k = 0;
     while h < n {
-        k += count_head(n, h, stretch(a, h), stretch(b, h));
+        k += count_head(n, h, prime::stretch(a, h), prime::stretch(b, h));
         h += 1;
     }
     k
@@ -202,7 +186,7 @@ pub fn write_join(n: u32, a: &[u32], b: &[u32], out: &mut [u32]) -> usize
     let mut h: u32 = 0;
     let mut at: usize = 0;
     while h < n {
-        at += write_head_at(n, h, stretch(a, h), stretch(b, h), out, at);
+        at += write_head_at(n, h, prime::stretch(a, h), prime::stretch(b, h), out, at);
         h += 1;
     }
     at

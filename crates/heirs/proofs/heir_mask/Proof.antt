@@ -21,7 +21,12 @@ sub-result : tie.Need-sub-result
 sub-result c = and-le-l _ _
 
 returns : tie.Need-returns
-returns c = heir-bits _ _ _ (c .before .before .before .before .before .pre .0) (c .before .before .before .before .before .pre .1) (c .before .before .before .before .before .pre .2) _ _ _ _ _ (c .before .before .before .near-part .ensures) (c .before .state-of .ensures) (c .before .before .free-relays .ensures) (c .relays-against .ensures)
+returns c =
+    let at-state-of = c .before in
+    let at-free-relays = at-state-of .before in
+    let at-near-part = at-free-relays .before in
+    let start = at-near-part .before .before in
+    heir-bits _ _ _ (start .pre .0) (start .pre .1) (start .pre .2) _ _ _ _ _ (at-near-part .near-part .ensures) (at-state-of .state-of .ensures) (at-free-relays .free-relays .ensures) (c .relays-against .ensures)
 
 pub heir-mask-spec : {M : Type 1} → statement M
 heir-mask-spec =

@@ -1,6 +1,5 @@
 -- `panel::is_on` meets its contract.
 use mathlib.Core.Path.{refl}
-use native.Mathlib.Omega.{arith}
 use Rattle.panel.specs.Masks.{on}
 use Rattle.panel.proofs.Judging.{on-high}
 use borrow.Author.Needs.{needs}

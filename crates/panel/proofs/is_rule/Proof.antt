@@ -21,13 +21,28 @@ returns : tie.Need-returns
 returns c = rule-no-head _ _ _ _ _ (c .before .before .before .before .power .ensures .0) (c .before .before .before .must-on .ensures) (c .before .before .must-off .ensures) _ (c .before .head-of .ensures) (c .if1 .taken)
 
 returns-2 : tie.Need-returns-2
-returns-2 c = rule-no-on _ _ _ _ _ (c .before .before .before .before .before .power .ensures .0) (c .before .before .before .before .must-on .ensures) (c .before .before .before .must-off .ensures) _ (c .before .before .head-of .ensures) (omega arith) (c .if2 .taken)
+returns-2 c =
+    let at-head-of = c .before .before in
+    let at-must-off = at-head-of .before in
+    let at-must-on = at-must-off .before in
+    let at-power = at-must-on .before in
+    rule-no-on _ _ _ _ _ (at-power .power .ensures .0) (at-must-on .must-on .ensures) (at-must-off .must-off .ensures) _ (at-head-of .head-of .ensures) (omega arith) (c .if2 .taken)
 
 returns-3 : tie.Need-returns-3
-returns-3 c = rule-no-off _ _ _ _ _ (c .before .before .before .before .before .before .power .ensures .0) (c .before .before .before .before .before .must-on .ensures) (c .before .before .before .before .must-off .ensures) _ (c .before .before .before .head-of .ensures) (omega arith) (omega arith) (c .if3 .taken)
+returns-3 c =
+    let at-head-of = c .before .before .before in
+    let at-must-off = at-head-of .before in
+    let at-must-on = at-must-off .before in
+    let at-power = at-must-on .before in
+    rule-no-off _ _ _ _ _ (at-power .power .ensures .0) (at-must-on .must-on .ensures) (at-must-off .must-off .ensures) _ (at-head-of .head-of .ensures) (omega arith) (omega arith) (c .if3 .taken)
 
 returns-4 : tie.Need-returns-4
-returns-4 c = rule-body _ _ _ _ _ (c .before .before .before .before .before .before .power .ensures .0) (c .before .before .before .before .before .must-on .ensures) (c .before .before .before .before .must-off .ensures) _ (c .before .before .before .head-of .ensures) (omega arith) (omega arith) (omega arith)
+returns-4 c =
+    let at-head-of = c .before .before .before in
+    let at-must-off = at-head-of .before in
+    let at-must-on = at-must-off .before in
+    let at-power = at-must-on .before in
+    rule-body _ _ _ _ _ (at-power .power .ensures .0) (at-must-on .must-on .ensures) (at-must-off .must-off .ensures) _ (at-head-of .head-of .ensures) (omega arith) (omega arith) (omega arith)
 
 pub is-rule-spec : {M : Type 1} → statement M
 is-rule-spec =

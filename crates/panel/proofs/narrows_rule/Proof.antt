@@ -1,5 +1,5 @@
 -- `panel::narrows_rule` meets its contract.
-use mathlib.Core.Path.{ap₂, sym, _∙_}
+use mathlib.Core.Path.{ap₂}
 use lib.Dec.{eqb}
 use borrow.Author.Tests.{eq-eqb, ne-eqb}
 use Rattle.panel.specs.Rules.{narrows}

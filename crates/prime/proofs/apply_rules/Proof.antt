@@ -1,5 +1,4 @@
 -- `prime::apply_rules` meets its contract.
-use mathlib.Core.Path.{_≡_, sym, _∙_}
 use Prim.Native.Nat.{_≤_, _-_}
 use native.Mathlib.Omega.{arith}
 use lib.ListN.{length}
@@ -25,7 +24,11 @@ shared-slice-read-pull : tie.Need-shared-slice-read-pull Inv-loop μ-loop
 shared-slice-read-pull c = search needs
 
 pull-requires : tie.Need-pull-requires Inv-loop μ-loop
-pull-requires c κs = omega (arith, rule-head (c .before .before .before .before .args .n) (now (c .before .before .before .before .args .sheet)) (c .before .before .before .before .pre .1) (c .before .before .loop .k) (c .before .loop-test .taken))
+pull-requires c κs =
+    let at-loop-test = c .before in
+    let at-loop = at-loop-test .before in
+    let start = at-loop .before .before in
+    omega (arith, rule-head (start .args .n) (now (start .args .sheet)) (start .pre .1) (at-loop .loop .k) (at-loop-test .loop-test .taken))
 
 add-k : tie.Need-add-k Inv-loop μ-loop
 add-k c = search needs

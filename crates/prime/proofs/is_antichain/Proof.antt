@@ -44,13 +44,23 @@ is-narrowed-requires : tie.Need-is-narrowed-requires Inv-loop μ-loop
 is-narrowed-requires c κs = antichain-rest (now (c .before .before .before .before .before .args .sheet)) (c .before .before .before .before .before .pre) _ (c .before .before .loop-test .taken)
 
 returns : tie.Need-returns Inv-loop μ-loop
-returns c = sym (c .before .before .before .before .before .loop .inv .1 ∙ antichain-no (now (c .before .before .before .before .before .before .before .args .sheet)) (c .before .before .before .before .before .before .before .pre) _ (c .before .before .before .before .loop-test .taken) _ (c .before .is-narrowed .ensures) (c .if1 .taken))
+returns c =
+    let at-is-narrowed = c .before in
+    let at-loop-test = at-is-narrowed .before .before .before in
+    let at-loop = at-loop-test .before in
+    let start = at-loop .before .before in
+    sym (at-loop .loop .inv .1 ∙ antichain-no (now (start .args .sheet)) (start .pre) _ (at-loop-test .loop-test .taken) _ (at-is-narrowed .is-narrowed .ensures) (c .if1 .taken))
 
 loop-less : tie.Need-loop-less Inv-loop μ-loop
 loop-less c = search needs
 
 loop-again : tie.Need-loop-again Inv-loop μ-loop
-loop-again c = (omega arith, c .before .before .before .before .before .loop .inv .1 ∙ antichain-more (now (c .before .before .before .before .before .before .before .args .sheet)) (c .before .before .before .before .before .before .before .pre) _ (c .before .before .before .before .loop-test .taken) _ (c .before .is-narrowed .ensures) (c .if1 .left))
+loop-again c =
+    let at-is-narrowed = c .before in
+    let at-loop-test = at-is-narrowed .before .before .before in
+    let at-loop = at-loop-test .before in
+    let start = at-loop .before .before in
+    (omega arith, at-loop .loop .inv .1 ∙ antichain-more (now (start .args .sheet)) (start .pre) _ (at-loop-test .loop-test .taken) _ (at-is-narrowed .is-narrowed .ensures) (c .if1 .left))
 
 returns-2 : tie.Need-returns-2 Inv-loop μ-loop
 returns-2 c = sym (c .before .loop .inv .1 ∙ antichain-end _ _ (c .loop-test .left))

@@ -1,8 +1,6 @@
 -- `prime::is_narrowed` meets its contract.
 use mathlib.Core.Path.{_≡_, sym, _∙_}
-use mathlib.Core.Bool.{Bool}
-use mathlib.Core.List.{List}
-use Prim.Native.Nat.{ℕ, _≤_, _-_}
+use Prim.Native.Nat.{_≤_, _-_}
 use native.Mathlib.Omega.{arith}
 use lib.ListN.{length}
 use denote.Ref.{now}
@@ -36,13 +34,27 @@ head-of-requires-2 : tie.Need-head-of-requires-2 Inv-loop μ-loop
 head-of-requires-2 c κs = search needs
 
 returns : tie.Need-returns Inv-loop μ-loop
-returns c = sym (c .before .before .before .before .loop .inv .1 ∙ narrowed-past _ _ (c .before .before .before .before .before .before .before .pre) _ (c .before .before .before .before .before .head-of .ensures) _ (c .before .before .before .loop-test .taken) _ (c .before .head-of2 .ensures) (c .if1 .taken))
+returns c =
+    let at-head-of2 = c .before in
+    let at-loop-test = at-head-of2 .before .before in
+    let at-loop = at-loop-test .before in
+    let at-head-of = at-loop .before in
+    let start = at-head-of .before .before in
+    sym (at-loop .loop .inv .1 ∙ narrowed-past _ _ (start .pre) _ (at-head-of .head-of .ensures) _ (at-loop-test .loop-test .taken) _ (at-head-of2 .head-of2 .ensures) (c .if1 .taken))
 
 contains-body-requires : tie.Need-contains-body-requires Inv-loop μ-loop
 contains-body-requires c κs = search needs
 
 returns-2 : tie.Need-returns-2 Inv-loop μ-loop
-returns-2 c = sym (c .before .before .before .before .before .before .loop .inv .1 ∙ any-here _ _ _ (c .before .before .before .before .before .loop-test .taken) (narrowed-test _ (now (c .before .before .before .before .before .before .before .before .before .args .rest)) (c .before .before .before .before .before .before .before .before .before .pre) _ (c .before .before .before .before .before .before .before .head-of .ensures) _ (c .before .before .before .before .before .loop-test .taken) _ (c .before .before .before .head-of2 .ensures) (c .before .before .if1 .left) _ (c .before .contains-body .ensures) ∙ c .if2 .taken))
+returns-2 c =
+    let at-contains-body = c .before in
+    let at-if1 = at-contains-body .before in
+    let at-head-of2 = at-if1 .before in
+    let at-loop-test = at-head-of2 .before .before in
+    let at-loop = at-loop-test .before in
+    let at-head-of = at-loop .before in
+    let start = at-head-of .before .before in
+    sym (at-loop .loop .inv .1 ∙ any-here _ _ _ (at-loop-test .loop-test .taken) (narrowed-test _ (now (start .args .rest)) (start .pre) _ (at-head-of .head-of .ensures) _ (at-loop-test .loop-test .taken) _ (at-head-of2 .head-of2 .ensures) (at-if1 .if1 .left) _ (at-contains-body .contains-body .ensures) ∙ c .if2 .taken))
 
 add-k : tie.Need-add-k Inv-loop μ-loop
 add-k c = search needs
@@ -51,7 +63,15 @@ loop-less : tie.Need-loop-less Inv-loop μ-loop
 loop-less c = search needs
 
 loop-again : tie.Need-loop-again Inv-loop μ-loop
-loop-again c = (omega arith, c .before .before .before .before .before .before .loop .inv .1 ∙ any-more _ _ _ (c .before .before .before .before .before .loop-test .taken) (narrowed-test _ (now (c .before .before .before .before .before .before .before .before .before .args .rest)) (c .before .before .before .before .before .before .before .before .before .pre) _ (c .before .before .before .before .before .before .before .head-of .ensures) _ (c .before .before .before .before .before .loop-test .taken) _ (c .before .before .before .head-of2 .ensures) (c .before .before .if1 .left) _ (c .before .contains-body .ensures) ∙ c .if2 .left))
+loop-again c =
+    let at-contains-body = c .before in
+    let at-if1 = at-contains-body .before in
+    let at-head-of2 = at-if1 .before in
+    let at-loop-test = at-head-of2 .before .before in
+    let at-loop = at-loop-test .before in
+    let at-head-of = at-loop .before in
+    let start = at-head-of .before .before in
+    (omega arith, at-loop .loop .inv .1 ∙ any-more _ _ _ (at-loop-test .loop-test .taken) (narrowed-test _ (now (start .args .rest)) (start .pre) _ (at-head-of .head-of .ensures) _ (at-loop-test .loop-test .taken) _ (at-head-of2 .head-of2 .ensures) (at-if1 .if1 .left) _ (at-contains-body .contains-body .ensures) ∙ c .if2 .left))
 
 returns-3 : tie.Need-returns-3 Inv-loop μ-loop
 returns-3 c = sym (c .before .loop .inv .1 ∙ any-end _ _ _ (c .loop-test .left))

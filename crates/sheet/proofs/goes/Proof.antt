@@ -1,6 +1,5 @@
 -- `sheet::goes` meets its contract.
 use Rattle.sheet.proofs.Planting.{goes-all, goes-barren}
-use borrow.Author.Needs.{needs}
 use Rattle.sheet.proofs.goes.Statement.{statement}
 use Rattle.sheet.proofs.goes.Tie as tie
 

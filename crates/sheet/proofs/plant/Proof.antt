@@ -19,7 +19,11 @@ loop-holds : tie.Need-loop-holds Inv-loop μ-loop
 loop-holds c = (omega arith, plant-start _ _ _ _ _ (c .before .pre .2))
 
 plant-one-requires : tie.Need-plant-one-requires Inv-loop μ-loop
-plant-one-requires c κs = (omega arith, c .before .before .before .before .pre .1, c .before .before .loop .inv .1 .fits, plant-order _ _ _ _ _ _ _ _ _ (c .before .before .loop .inv .1) (c .before .loop-test .taken) (c .before .before .before .before .pre .3), plant-room _ _ _ _ _ _ _ _ _ (c .before .before .loop .inv .1) (c .before .loop-test .taken) (c .before .before .before .before .pre .3))
+plant-one-requires c κs =
+    let at-loop-test = c .before in
+    let at-loop = at-loop-test .before in
+    let start = at-loop .before .before in
+    (omega arith, start .pre .1, at-loop .loop .inv .1 .fits, plant-order _ _ _ _ _ _ _ _ _ (at-loop .loop .inv .1) (at-loop-test .loop-test .taken) (start .pre .3), plant-room _ _ _ _ _ _ _ _ _ (at-loop .loop .inv .1) (at-loop-test .loop-test .taken) (start .pre .3))
 
 add-v : tie.Need-add-v Inv-loop μ-loop
 add-v c = omega arith
@@ -28,7 +32,12 @@ loop-less : tie.Need-loop-less Inv-loop μ-loop
 loop-less c = omega arith
 
 loop-again : tie.Need-loop-again Inv-loop μ-loop
-loop-again c = (omega arith, plant-more _ _ _ _ _ _ _ _ _ (c .before .before .before .before .before .loop .inv .1) (c .before .before .before .before .loop-test .taken) (c .before .before .before .before .before .before .before .pre .3) _ _ (c .before .before .plant-one .ensures))
+loop-again c =
+    let at-plant-one = c .before .before in
+    let at-loop-test = at-plant-one .before .before in
+    let at-loop = at-loop-test .before in
+    let start = at-loop .before .before in
+    (omega arith, plant-more _ _ _ _ _ _ _ _ _ (at-loop .loop .inv .1) (at-loop-test .loop-test .taken) (start .pre .3) _ _ (at-plant-one .plant-one .ensures))
 
 same-length : tie.Need-same-length Inv-loop μ-loop
 same-length c = c .before .loop .inv .1 .same

@@ -11,7 +11,11 @@ candidate-on-requires : tie.Need-candidate-on-requires
 candidate-on-requires c κs = search needs
 
 insert-sorted-requires : tie.Need-insert-sorted-requires
-insert-sorted-requires c κs = (one-room _ _ _ _ (c .before .before .before .is-on .ensures) (c .before .before .if1 .taken) _ (c .before .before .before .before .before .pre .2) (c .before .before .before .before .before .pre .4), c .before .before .before .before .before .pre .3)
+insert-sorted-requires c κs =
+    let at-if1 = c .before .before in
+    let at-is-on = at-if1 .before in
+    let start = at-is-on .before .before in
+    (one-room _ _ _ _ (at-is-on .is-on .ensures) (at-if1 .if1 .taken) _ (start .pre .2) (start .pre .4), start .pre .3)
 
 add-result : tie.Need-add-result
 add-result c = search needs
@@ -20,7 +24,13 @@ same-length : tie.Need-same-length
 same-length c = search needs
 
 returns : tie.Need-returns
-returns c = one-done _ _ _ _ (c .before .before .before .before .before .before .is-on .ensures) (c .before .before .before .before .before .if1 .taken) _ _ _ (c .before .before .before .before .candidate-on .ensures) (one-room _ _ _ _ (c .before .before .before .before .before .before .is-on .ensures) (c .before .before .before .before .before .if1 .taken) _ (c .before .before .before .before .before .before .before .before .pre .2) (c .before .before .before .before .before .before .before .before .pre .4)) (c .before .before .insert-sorted .ensures)
+returns c =
+    let at-insert-sorted = c .before .before in
+    let at-candidate-on = at-insert-sorted .before .before in
+    let at-if1 = at-candidate-on .before in
+    let at-is-on = at-if1 .before in
+    let start = at-is-on .before .before in
+    one-done _ _ _ _ (at-is-on .is-on .ensures) (at-if1 .if1 .taken) _ _ _ (at-candidate-on .candidate-on .ensures) (one-room _ _ _ _ (at-is-on .is-on .ensures) (at-if1 .if1 .taken) _ (start .pre .2) (start .pre .4)) (at-insert-sorted .insert-sorted .ensures)
 
 returns-2 : tie.Need-returns-2
 returns-2 c = one-none _ _ _ _ (c .before .is-on .ensures) (c .if1 .left) _ (c .before .before .before .pre .2)

@@ -31,30 +31,58 @@ same-length : tie.Need-same-length
 same-length c = search needs
 
 returns : tie.Need-returns
-returns c = barren-done _ _ _ _ _ _ _ _ (c .before .before .before .before .before .first-on .ensures) (c .before .before .before .before .if1 .taken) (removed-table _ _ _ _ (c .before .before .before .before .before .before .before .before .pre .2) (c .before .before .before .before .before .before .before .before .pre .3) (c .before .before .before .before .before .before .before .before .pre .4) (c .before .before .remove-at .ensures))
+returns c =
+    let at-remove-at = c .before .before in
+    let at-if1 = at-remove-at .before .before in
+    let at-first-on = at-if1 .before in
+    let start = at-first-on .before .before .before in
+    barren-done _ _ _ _ _ _ _ _ (at-first-on .first-on .ensures) (at-if1 .if1 .taken) (removed-table _ _ _ _ (start .pre .2) (start .pre .3) (start .pre .4) (at-remove-at .remove-at .ensures))
 
 candidate-on-requires : tie.Need-candidate-on-requires
 candidate-on-requires c κs = (omega (arith, c .before .before .before .before .pre .0, c .if1 .left), c .before .before .before .before .pre .1)
 
 replace-at-requires : tie.Need-replace-at-requires
-replace-at-requires c κs = (c .before .before .before .before .before .before .pre .2, c .before .before .before .before .before .before .pre .3, c .before .before .before .before .before .before .pre .4, subst (λ (k : ℕ). getD (now (c .before .before .before .before .before .before .args .sheet)) (c .before .before .before .before .before .before .args .at) 0 < k) (sym (c .before .candidate-on .ensures)) (candidate-above _ _ _))
+replace-at-requires c κs =
+    let at-candidate-on = c .before in
+    let start = at-candidate-on .before .before .before .before .before in
+    (start .pre .2, start .pre .3, start .pre .4, subst (λ (k : ℕ). getD (now (start .args .sheet)) (start .args .at) 0 < k) (sym (at-candidate-on .candidate-on .ensures)) (candidate-above _ _ _))
 
 power-requires : tie.Need-power-requires
-power-requires c κs = omega (arith, c .before .before .before .before .before .before .before .before .before .before .pre .0, c .before .before .before .before .before .before .if1 .left)
+power-requires c κs =
+    let at-if1 = c .before .before .before .before .before .before in
+    let start = at-if1 .before .before .before .before in
+    omega (arith, start .pre .0, at-if1 .if1 .left)
 
 sub-plant : tie.Need-sub-plant
-sub-plant c = omega (arith, c .power .ensures .0, on-le _ _ (c .before .before .before .before .before .before .before .before .first-on .ensures .on-here (c .before .before .before .before .before .before .before .if1 .left)))
+sub-plant c =
+    let at-if1 = c .before .before .before .before .before .before .before in
+    let at-first-on = at-if1 .before in
+    omega (arith, c .power .ensures .0, on-le _ _ (at-first-on .first-on .ensures .on-here (at-if1 .if1 .left)))
 
 plant-requires : tie.Need-plant-requires
-plant-requires c κs = let h = replaced-holds _ _ _ _ _ (c .before .before .before .before .before .before .before .before .before .before .before .pre .2) (c .before .before .before .before .before .before .before .before .before .before .before .pre .3) (c .before .before .before .before .before .before .before .before .before .before .before .pre .4) (c .before .before .before .before .replace-at .ensures) in
-    (c .before .before .before .before .before .before .before .before .before .before .before .pre .0, c .before .before .before .before .before .before .before .before .before .before .before .pre .1, h .fits, swap-can _ _ _ _ _ _ _ _ _ _ (c .before .before .before .before .before .before .before .before .first-on .ensures) (c .before .before .before .before .before .before .before .if1 .left) (c .before .before .before .before .before .before .candidate-on .ensures) (c .power .ensures .0) h (c .before .before .before .before .before .before .before .before .before .before .before .pre .5))
+plant-requires c κs =
+    let at-replace-at = c .before .before .before .before in
+    let at-candidate-on = at-replace-at .before .before in
+    let at-if1 = at-candidate-on .before in
+    let at-first-on = at-if1 .before in
+    let start = at-first-on .before .before .before in
+    let h = replaced-holds _ _ _ _ _ (start .pre .2) (start .pre .3) (start .pre .4) (at-replace-at .replace-at .ensures) in
+    (start .pre .0, start .pre .1, h .fits, swap-can _ _ _ _ _ _ _ _ _ _ (at-first-on .first-on .ensures) (at-if1 .if1 .left) (at-candidate-on .candidate-on .ensures) (c .power .ensures .0) h (start .pre .5))
 
 same-length-2 : tie.Need-same-length-2
 same-length-2 c = search needs
 
 returns-2 : tie.Need-returns-2
-returns-2 c = let h = replaced-holds _ _ _ _ _ (c .before .before .before .before .before .before .before .before .before .before .before .before .before .before .pre .2) (c .before .before .before .before .before .before .before .before .before .before .before .before .before .before .pre .3) (c .before .before .before .before .before .before .before .before .before .before .before .before .before .before .pre .4) (c .before .before .before .before .before .before .before .replace-at .ensures) in
-    swap-done _ _ _ _ _ _ _ _ _ _ (c .before .before .before .before .before .before .before .before .before .before .before .first-on .ensures) (c .before .before .before .before .before .before .before .before .before .before .if1 .left) (c .before .before .before .before .before .before .before .before .before .candidate-on .ensures) (c .before .before .before .power .ensures .0) h _ _ (c .before .before .plant .ensures)
+returns-2 c =
+    let at-plant = c .before .before in
+    let at-power = at-plant .before in
+    let at-replace-at = at-power .before .before .before .before in
+    let at-candidate-on = at-replace-at .before .before in
+    let at-if1 = at-candidate-on .before in
+    let at-first-on = at-if1 .before in
+    let start = at-first-on .before .before .before in
+    let h = replaced-holds _ _ _ _ _ (start .pre .2) (start .pre .3) (start .pre .4) (at-replace-at .replace-at .ensures) in
+    swap-done _ _ _ _ _ _ _ _ _ _ (at-first-on .first-on .ensures) (at-if1 .if1 .left) (at-candidate-on .candidate-on .ensures) (at-power .power .ensures .0) h _ _ (at-plant .plant .ensures)
 
 pub replant-spec : {M : Type 1} → statement M
 replant-spec =

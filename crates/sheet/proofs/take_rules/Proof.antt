@@ -1,7 +1,6 @@
 -- `sheet::take_rules` meets its contract.
 use mathlib.Core.Path.{refl}
 use native.Mathlib.Omega.{arith}
-use denote.Ref.{now}
 use lib.ListN.{length, take}
 use Rattle.sheet.proofs.Sweeping.{Sweeping, ahead, positive, ahead-visit, ahead-phase, sweeping-start, sweeping-phase, sweeping-can, sweeping-visit, sweeping-end}
 use Rattle.sheet.proofs.take_rules.Statement.{statement}
@@ -29,13 +28,24 @@ sub-i : tie.Need-sub-i Inv-loop μ-loop
 sub-i c = omega (arith, positive _ (c .if1 .left))
 
 visit-requires : tie.Need-visit-requires Inv-loop μ-loop
-visit-requires c κs = sweeping-can _ (c .before .before .before .before .before .pre .0) _ _ (c .before .before .before .before .before .pre .2) _ _ _ _ _ (c .before .before .before .loop .inv) (c .before .before .loop-test .taken) (positive _ (c .before .if1 .left)) (c .before .before .before .before .before .pre .3)
+visit-requires c κs =
+    let at-if1 = c .before in
+    let at-loop-test = at-if1 .before in
+    let at-loop = at-loop-test .before in
+    let start = at-loop .before .before in
+    sweeping-can _ (start .pre .0) _ _ (start .pre .2) _ _ _ _ _ (at-loop .loop .inv) (at-loop-test .loop-test .taken) (positive _ (at-if1 .if1 .left)) (start .pre .3)
 
 loop-less-2 : tie.Need-loop-less-2 Inv-loop μ-loop
 loop-less-2 c = ahead-visit _ _ _ (c .before .before .before .before .before .loop-test .taken) (positive _ (c .before .before .before .before .if1 .left))
 
 loop-again-2 : tie.Need-loop-again-2 Inv-loop μ-loop
-loop-again-2 c = sweeping-visit _ (c .before .before .before .before .before .before .before .before .pre .0) _ _ (c .before .before .before .before .before .before .before .before .pre .2) _ _ _ _ _ (c .before .before .before .before .before .before .loop .inv) (c .before .before .before .before .before .loop-test .taken) (positive _ (c .before .before .before .before .if1 .left)) _ _ (c .before .before .visit .ensures)
+loop-again-2 c =
+    let at-visit = c .before .before in
+    let at-if1 = at-visit .before .before in
+    let at-loop-test = at-if1 .before in
+    let at-loop = at-loop-test .before in
+    let start = at-loop .before .before in
+    sweeping-visit _ (start .pre .0) _ _ (start .pre .2) _ _ _ _ _ (at-loop .loop .inv) (at-loop-test .loop-test .taken) (positive _ (at-if1 .if1 .left)) _ _ (at-visit .visit .ensures)
 
 same-length : tie.Need-same-length Inv-loop μ-loop
 same-length c = c .before .loop .inv .same

@@ -1,6 +1,5 @@
 -- `sheet::visit` meets its contract.
 use mathlib.Core.Path.{refl, sym, _∙_}
-use native.Mathlib.Omega.{arith}
 use denote.Ref.{now}
 use lib.Seq.{length-take-le}
 use borrow.Author.Tests.{not-true, not-false}
@@ -29,7 +28,11 @@ slice-aggregate-heirs-of : tie.Need-slice-aggregate-heirs-of
 slice-aggregate-heirs-of c = sym (length-take-le _ _ (c .before .before .before .before .before .pre .fits))
 
 heirs-of-requires : tie.Need-heirs-of-requires
-heirs-of-requires c κs = (c .before .before .before .before .before .pre .size, c .before .before .before .before .before .pre .sorted, c .before .before .before .before .before .pre .rule, sym (c .before .before .is-spared .ensures) ∙ c .before .if1 .left)
+heirs-of-requires c κs =
+    let at-if1 = c .before in
+    let at-is-spared = at-if1 .before in
+    let start = at-is-spared .before .before .before in
+    (start .pre .size, start .pre .sorted, start .pre .rule, sym (at-is-spared .is-spared .ensures) ∙ at-if1 .if1 .left)
 
 goes-requires : tie.Need-goes-requires
 goes-requires c κs = search needs
@@ -38,19 +41,41 @@ same-length : tie.Need-same-length
 same-length c = search needs
 
 returns-2 : tie.Need-returns-2
-returns-2 c = visit-later _ _ _ _ _ _ _ (c .before .before .before .before .before .is-spared .ensures) (c .before .before .before .before .if1 .left) _ (c .before .before .heirs-of .ensures) _ (c .before .goes .ensures) (not-true _ (c .if2 .taken)) (c .before .before .before .before .before .before .before .before .pre .fits)
+returns-2 c =
+    let at-goes = c .before in
+    let at-heirs-of = at-goes .before in
+    let at-if1 = at-heirs-of .before .before in
+    let at-is-spared = at-if1 .before in
+    let start = at-is-spared .before .before .before in
+    visit-later _ _ _ _ _ _ _ (at-is-spared .is-spared .ensures) (at-if1 .if1 .left) _ (at-heirs-of .heirs-of .ensures) _ (at-goes .goes .ensures) (not-true _ (c .if2 .taken)) (start .pre .fits)
 
 state-of-requires : tie.Need-state-of-requires
 state-of-requires c κs = search needs
 
 replant-requires : tie.Need-replant-requires
-replant-requires c κs = (c .before .before .before .before .before .before .before .before .before .before .pre .size, rule-small _ _ (c .before .before .before .before .before .before .before .before .before .before .pre .size) _ refl (c .before .before .before .before .before .before .before .before .before .before .pre .rule), c .before .before .before .before .before .before .before .before .before .before .pre .inside, c .before .before .before .before .before .before .before .before .before .before .pre .fits, c .before .before .before .before .before .before .before .before .before .before .pre .sorted, visit-can _ _ _ _ (now (c .before .before .before .before .before .before .before .before .before .before .args .sheet)) (c .before .before .before .before .before .before .before .before .before .before .args .have) _ (c .before .before .before .before .before .before .before .is-spared .ensures) (c .before .before .before .before .before .before .if1 .left) _ (c .before .before .before .before .heirs-of .ensures) _ (c .before .before .before .goes .ensures) (not-false _ (c .before .before .if2 .left)) (c .before .before .before .before .before .before .before .before .before .before .pre .plants) _ (c .state-of .ensures))
+replant-requires c κs =
+    let at-if2 = c .before .before in
+    let at-goes = at-if2 .before in
+    let at-heirs-of = at-goes .before in
+    let at-if1 = at-heirs-of .before .before in
+    let at-is-spared = at-if1 .before in
+    let start = at-is-spared .before .before .before in
+    (start .pre .size, rule-small _ _ (start .pre .size) _ refl (start .pre .rule), start .pre .inside, start .pre .fits, start .pre .sorted, visit-can _ _ _ _ (now (start .args .sheet)) (start .args .have) _ (at-is-spared .is-spared .ensures) (at-if1 .if1 .left) _ (at-heirs-of .heirs-of .ensures) _ (at-goes .goes .ensures) (not-false _ (at-if2 .if2 .left)) (start .pre .plants) _ (c .state-of .ensures))
 
 same-length-2 : tie.Need-same-length-2
 same-length-2 c = search needs
 
 returns-3 : tie.Need-returns-3
-returns-3 c = visit-done _ _ _ _ (now (c .before .before .before .before .before .before .before .before .before .before .before .before .before .args .sheet)) (c .before .before .before .before .before .before .before .before .before .before .before .before .before .args .have) _ (c .before .before .before .before .before .before .before .before .before .before .is-spared .ensures) (c .before .before .before .before .before .before .before .before .before .if1 .left) _ (c .before .before .before .before .before .before .before .heirs-of .ensures) _ (c .before .before .before .before .before .before .goes .ensures) (not-false _ (c .before .before .before .before .before .if2 .left)) _ (c .before .before .before .state-of .ensures) _ _ (c .before .before .replant .ensures)
+returns-3 c =
+    let at-replant = c .before .before in
+    let at-state-of = at-replant .before in
+    let at-if2 = at-state-of .before .before in
+    let at-goes = at-if2 .before in
+    let at-heirs-of = at-goes .before in
+    let at-if1 = at-heirs-of .before .before in
+    let at-is-spared = at-if1 .before in
+    let start = at-is-spared .before .before .before in
+    visit-done _ _ _ _ (now (start .args .sheet)) (start .args .have) _ (at-is-spared .is-spared .ensures) (at-if1 .if1 .left) _ (at-heirs-of .heirs-of .ensures) _ (at-goes .goes .ensures) (not-false _ (at-if2 .if2 .left)) _ (at-state-of .state-of .ensures) _ _ (at-replant .replant .ensures)
 
 pub visit-spec : {M : Type 1} → statement M
 visit-spec =

@@ -1,9 +1,8 @@
 -- `sheet::write_fresh` meets its contract.
-use mathlib.Core.Path.{_≡_, sym, ap, _∙_}
+use mathlib.Core.Path.{_≡_}
 use mathlib.Core.List.{_++_}
 use Prim.Native.Nat.{_≤_, _-_}
 use native.Mathlib.Omega.{arith}
-use denote.Ref.{now}
 use lib.ListN.{length, drop}
 use Rattle.prime.specs.Sheets.{freshSheet}
 use Rattle.sheet.proofs.Fresh.{fresh-start, fresh-more, fresh-end}

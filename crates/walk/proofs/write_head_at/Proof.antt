@@ -25,7 +25,10 @@ same-length : tie.Need-same-length
 same-length c = search needs
 
 returns : tie.Need-returns
-returns c = (c .before .before .write-head .ensures .0, put-over (c .before .before .before .before .before .before .before .args .at) (now (c .before .before .before .before .before .before .before .args .out)) _ _ (omega arith) (c .before .before .write-head .ensures .1))
+returns c =
+    let at-write-head = c .before .before in
+    let start = at-write-head .before .before .before .before .before in
+    (at-write-head .write-head .ensures .0, put-over (start .args .at) (now (start .args .out)) _ _ (omega arith) (at-write-head .write-head .ensures .1))
 
 pub write-head-at-spec : {M : Type 1} → statement M
 write-head-at-spec =

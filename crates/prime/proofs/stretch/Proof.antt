@@ -1,9 +1,9 @@
--- `walk::stretch` meets its contract.
+-- `prime::stretch` meets its contract.
 use denote.Ref.{now}
-use Rattle.spans.proofs.Stretches.{head-stretch, stretch-order}
+use Rattle.panel.proofs.Stretches.{stretch-places, stretch-order}
 use borrow.Author.Needs.{needs}
-use Rattle.walk.proofs.stretch.Statement.{statement}
-use Rattle.walk.proofs.stretch.Tie as tie
+use Rattle.prime.proofs.stretch.Statement.{statement}
+use Rattle.prime.proofs.stretch.Tie as tie
 
 mul-place : tie.Need-mul-place
 mul-place c = search needs
@@ -36,7 +36,7 @@ part-result-end c = search needs
 
 returns : tie.Need-returns
 returns c = let s = c .before .before .before .before in
-    head-stretch (s .args .h) (now (s .args .s)) (s .pre .1) _ _ (c .before .before .place .ensures .0) (c .before .place2 .ensures .0)
+    stretch-places (s .args .h) (now (s .args .s)) (s .pre .1) _ _ (c .before .before .place .ensures .0) (c .before .place2 .ensures .0)
 
 pub stretch-spec : {M : Type 1} → statement M
 stretch-spec =

@@ -1,18 +1,19 @@
--- The part of an increasing list between two words.
-use mathlib.Core.Path.{_≡_, refl, ap, _∙_}
+-- The part of an increasing list between two words, and the places where it stands.
+use mathlib.Core.Path.{_≡_, refl, sym, ap, _∙_}
 use mathlib.Core.Logic.{_⊎_, inl, inr}
 use mathlib.Core.Bool.{Bool, true, false, _&&_}
-use mathlib.Core.List.{List, [], _++_, List·Memᴰ as Mem, List·Memᴰ·append-cases, Memᴰ·append-left, Memᴰ·append-right, List·Memᴰ·not-nil}
-use Prim.Native.Nat.{ℕ, _≤_, _<_}
+use mathlib.Core.List.{List, [], _∷_, _++_, List·Memᴰ as Mem, List·Memᴰ·head as here, List·Memᴰ·append-cases, Memᴰ·append-left, Memᴰ·append-right, List·Memᴰ·not-nil}
+use Prim.Native.Nat.{ℕ, _-_, _≤_, _<_}
+use native.Mathlib.Nat.{sub-zero, suc-sub-suc}
 use native.Mathlib.Omega.{arith}
 use lib.Dec.{ltb, leb}
-use borrow.Author.Tests.{ltb-true, lt-ltb, leb-true, le-leb, ltb-false}
-use Rattle.table.specs.Lists.{consIf, increasing, has}
-use Rattle.table.proofs.Basics.{and-l, and-r, and-i, filter-e, filter-i}
-use Rattle.table.proofs.Increasing.{filter-increasing, append-increasing, increasing-unique}
+use lib.ListN.{take, drop}
+use borrow.Author.Tests.{ltb-true, lt-ltb, leb-true, le-leb, ltb-false, le-ltb, lt-leb}
+use Rattle.table.specs.Lists.{consIf, increasing, has, between}
+use Rattle.table.specs.Surgery.{placeOf, oneMoreIf}
+use Rattle.table.proofs.Basics.{and-l, and-r, and-i, filter-e, filter-i, single-e, single-i, single-increasing}
+use Rattle.table.proofs.Increasing.{first-below, rest-increasing, filter-increasing, append-increasing, increasing-unique}
 use Rattle.table.proofs.Counting.{has-e, has-i}
-use Rattle.panel.proofs.Words.{single-e, single-i, single-increasing}
-use Rattle.spans.specs.Parts.{between}
 
 module _ (lo hi : ℕ) where
   pub between-e : (s : List ℕ) (x : ℕ) → Mem x (between lo hi s) → Mem x s × (lo ≤ x) × (x < hi)
@@ -69,12 +70,12 @@ between-step : (s : List ℕ) → increasing s ≡ true → (w r : ℕ) → w < 
     → between w r s ≡ consIf (has w s) w []
 between-step s is w r l f =
     between-unique w r s (consIf (has w s) w []) is (single-increasing (has w s) w)
-    (λ x m a b. here x m a b (ltb w x) refl)
+    (λ x m a b. at x m a b (ltb w x) refl)
     (λ x m. let k = single-e (has w s) m in (rw (k .0) (has-e w s (k .1)), omega (arith, k .0), omega (arith, k .0)))
   where
-    here : (x : ℕ) → Mem x s → w ≤ x → x < r → (t : Bool) → ltb w x ≡ t → Mem x (consIf (has w s) w [])
-    here x m a b true e = absurd (f x m (ltb-true w x e) b)
-    here x m a b false e =
+    at : (x : ℕ) → Mem x s → w ≤ x → x < r → (t : Bool) → ltb w x ≡ t → Mem x (consIf (has w s) w [])
+    at x m a b true e = absurd (f x m (ltb-true w x e) b)
+    at x m a b false e =
         let q : x ≡ w = omega (arith, ltb-false w x e) in
         single-i (has w s) q (has-i w s (rw q at m))
 
@@ -82,3 +83,33 @@ pub between-more : (s : List ℕ) → increasing s ≡ true → (lo w r : ℕ) �
     → between lo r s ≡ between lo w s ++ consIf (has w s) w []
 between-more s is lo w r a l f =
     between-split s is lo w r a (omega arith) ∙ ap (λ (t : List ℕ). between lo w s ++ t) (between-step s is w r l f)
+
+-- ---- by places
+
+place-first : (x : ℕ) (s : List ℕ) → ((w : ℕ) → Mem w s → x ≤ w) → placeOf x s ≡ 0
+place-first x [] f = refl
+place-first x (z ∷ zs) f = ap (λ (b : Bool). oneMoreIf b (placeOf x zs)) (le-ltb z x (f z (here refl)))
+
+-- the words between two places are those between two values
+pub between-places : (x y : ℕ) → x ≤ y → (s : List ℕ) → increasing s ≡ true
+    → take (placeOf y s - placeOf x s) (drop (placeOf x s) s) ≡ between x y s
+unfolding between
+between-places x y l [] e = refl
+between-places x y l (z ∷ zs) e = go (ltb z x) refl (ltb z y) refl (between-places x y l zs (rest-increasing z zs e))
+  where
+    shape : (a b c : Bool) → ltb z x ≡ a → ltb z y ≡ b → leb x z ≡ c
+        → take (oneMoreIf b (placeOf y zs) - oneMoreIf a (placeOf x zs)) (drop (oneMoreIf a (placeOf x zs)) (z ∷ zs)) ≡ consIf (c && b) z (between x y zs)
+        → take (placeOf y (z ∷ zs) - placeOf x (z ∷ zs)) (drop (placeOf x (z ∷ zs)) (z ∷ zs)) ≡ between x y (z ∷ zs)
+    shape a b c p q r g = rw (p, q, r) g
+
+    go : (a : Bool) → ltb z x ≡ a → (b : Bool) → ltb z y ≡ b → take (placeOf y zs - placeOf x zs) (drop (placeOf x zs) zs) ≡ between x y zs
+        → take (placeOf y (z ∷ zs) - placeOf x (z ∷ zs)) (drop (placeOf x (z ∷ zs)) (z ∷ zs)) ≡ between x y (z ∷ zs)
+    go true p true q ih = shape true true false p q (lt-leb x z (ltb-true z x p)) (rw suc-sub-suc ih)
+    go true p false q ih = absurd (omega (arith, ltb-true z x p, ltb-false z y q))
+    go false p true q ih =
+        let i : placeOf x zs ≡ 0 = place-first x zs (λ w m. omega (arith, ltb-false z x p, first-below z zs e m)) in
+        shape false true true p q (le-leb x z (ltb-false z x p))
+        (rw sub-zero (ap (λ (t : List ℕ). z ∷ t) (rw (i, sub-zero) at ih)))
+    go false p false q ih =
+        shape false false true p q (le-leb x z (ltb-false z x p))
+        (sym (between-none x y zs (rest-increasing z zs e) (λ w m a b. omega (arith, ltb-false z y q, first-below z zs e m, b))))
