@@ -183,13 +183,11 @@ pub record Rowed (lay : Layout) (st : State) (k : ℕ) (middle : List (List ℕ)
 row-line : (lay : Layout) (n : ℕ) (st : State) (l : Line) (k : ℕ) → st .ended ≡ false → readyOf lay (st .seen) ≡ true → st .size ≡ n → RowLine lay n l
     → (allowedOf lay st l ≡ true) × (nextOf st l k .seen ≡ st .seen) × (nextOf st l k .size ≡ st .size) × (nextOf st l k .want ≡ st .want) × (nextOf st l k .ended ≡ st .ended)
 unfolding rowAllowed
-row-line lay n st Empty k e r s p = (refl, refl, refl, refl, refl)
-row-line lay n st (Sized q z) k e r s p = absurd p
-row-line lay n st (Typed t) k e r s p = absurd p
-row-line lay n st (Rows v) k e r s p = absurd p
-row-line lay n st (Row m) k e r s p = (and-i _ _ (end-i lay st e r) (and-i _ _ (eq-eqb (st .size) (m .width) (s ∙ sym (p .width))) (fits-i lay n m p)), refl, refl, refl, refl)
-row-line lay n st End k e r s p = absurd p
-row-line lay n st Fault k e r s p = absurd p
+row-line lay n st l k e r s (inl q) = rw q (refl, refl, refl, refl, refl)
+row-line lay n st l k e r s (inr q) =
+    let m = q .0 in
+    let p = q .2 in
+    rw (q .1) (and-i _ _ (end-i lay st e r) (and-i _ _ (eq-eqb (st .size) (m .width) (s ∙ sym (p .width))) (fits-i lay n m p)), refl, refl, refl, refl)
 
 rows-pass : (lay : Layout) (n : ℕ) (middle : List (List ℕ)) (st : State) (k : ℕ) → st .ended ≡ false → readyOf lay (st .seen) ≡ true → st .size ≡ n → All (RowLine lay n) middle → Rowed lay st k middle
 unfolding stateAfter allPass allowedAt nextAt

@@ -3,6 +3,7 @@
 use Prim.Native.Nat.{ℕ, _≤_}
 use mathlib.Core.Path.{_≡_, refl, sym}
 use mathlib.Core.List.{List, [], _∷_, _++_}
+use mathlib.Core.Logic.{inr}
 use mathlib.Core.Bool.{true, false, false≢true}
 use native.Mathlib.Omega.{arith}
 use Rattle.fields.specs.Bytes.{markOf, run, same}
@@ -182,7 +183,7 @@ whole-accepted =
       headers = (refl, (refl, tt));
       once = sizes-once;
       asked = sizes-asked;
-      rows = (record { width = refl; inputs = λ e. absurd (false≢true (sym e)); outputs = λ e. refl; single = λ e. absurd (false≢true e) }, tt);
+      rows = (inr (record { on = 1; off = 0; free = 0; next = 0; unread = 0; width = 1 }, refl, record { width = refl; inputs = λ e. absurd (false≢true (sym e)); outputs = λ e. refl; single = λ e. absurd (false≢true e) }), tt);
       ends = refl;
       empty = tt;
     }

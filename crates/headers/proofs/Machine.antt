@@ -5,7 +5,7 @@ use mathlib.Core.List.{List, [], _∷_, _++_}
 use mathlib.Core.Bool.{Bool, true, false, _||_}
 use native.Mathlib.Omega.{arith}
 use lib.ListN.{length}
-use Rattle.lines.specs.Lines.{lineOf}
+use Rattle.lines.specs.Lines.{lineOf, viewOf}
 use Rattle.headers.specs.Headers.{allowedAt, nextOf, nextAt}
 use Rattle.headers.specs.Verdicts.{finishOf, judgeLines}
 use Rattle.headers.specs.Accepted.{rowsIn}
@@ -14,7 +14,7 @@ use Rattle.headers.specs.declared.Layout.{Layout}
 use Rattle.headers.specs.declared.State.{State}
 use Rattle.headers.specs.declared.Verdict.the-variants.{Bad}
 use Rattle.headers.proofs.Passing.{stateAfter, allPass, pass-here, pass-more}
-use Rattle.headers.proofs.Seeing.{next-rows, next-ended}
+use Rattle.headers.proofs.Seeing.{next-goes}
 
 -- all lines are allowed, from a state on
 abbrev pub passes : Layout → List (List ℕ) → State → ℕ → Bool
@@ -47,12 +47,12 @@ judge-stuck lay (p ∷ pre) l post st k h a =
 pub after-rows : (ls : List (List ℕ)) (st : State) (k : ℕ) → after ls st k .rows ≡ st .rows + rowsIn ls
 unfolding stateAfter nextAt rowsIn
 after-rows [] st k = omega arith
-after-rows (l ∷ ls) st k = omega (arith, after-rows ls (nextOf st (lineOf l) k) (k + 1), next-rows st (lineOf l) k)
+after-rows (l ∷ ls) st k = omega (arith, after-rows ls (nextOf st (lineOf l) k) (k + 1), next-goes st (lineOf l) k .rows)
 
 pub after-ended : (ls : List (List ℕ)) (st : State) (k : ℕ) → after ls st k .ended ≡ (endIn ls || st .ended)
 unfolding stateAfter nextAt endIn
 after-ended [] st k = refl
-after-ended (l ∷ ls) st k = after-ended ls (nextOf st (lineOf l) k) (k + 1) ∙ rw (next-ended st (lineOf l) k) (go (endIn ls) (isEnd (lineOf l)))
+after-ended (l ∷ ls) st k = after-ended ls (nextOf st (lineOf l) k) (k + 1) ∙ rw (next-goes st (lineOf l) k .ended) (go (endIn ls) (isEnd (viewOf (lineOf l))))
   where
     go : (a b : Bool) → (a || (b || st .ended)) ≡ ((b || a) || st .ended)
     go true true = refl

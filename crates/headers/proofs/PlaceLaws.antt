@@ -12,13 +12,13 @@ use borrow.Author.Tests.{ne-eqb, eqb-false}
 use Rattle.table.proofs.Basics.{and-i, and-l}
 use Rattle.fields.specs.Texts.{linesOf}
 use Rattle.fields.proofs.JoinLaws.{NoFeed, NoFeeds, textOf, lines-of-text, lines-no-feeds, append-no-feeds}
-use Rattle.lines.specs.Lines.{lineOf}
+use Rattle.lines.specs.Lines.{lineOf, viewOf}
 use Rattle.lines.specs.declared.Line.{Line}
 use Rattle.lines.specs.declared.Line.the-variants.{Empty, Sized, Typed, Rows, Row, End, Fault}
 use Rattle.lines.proofs.Written.{countText, count-text, count-no-feed}
 use Rattle.headers.specs.Headers.{allowedAt, nextOf, nextAt, freshState}
 use Rattle.headers.specs.Verdicts.{finishOf, judgeLines, judgeOf}
-use Rattle.headers.specs.Accepted.{isRow, rowsIn, Accepted}
+use Rattle.headers.specs.Accepted.{isHeader, rowsIn, Accepted}
 use Rattle.headers.specs.Places.{Counts, Alike, Begins, endIn, FaultyLine, EndMissing, WrongCount, Place}
 use Rattle.headers.specs.declared.Layout.{Layout}
 use Rattle.headers.specs.declared.Header.the-variants.{Count}
@@ -34,83 +34,77 @@ use Rattle.headers.proofs.Accepting.{good-or-bad, finish-i, good-text, 
 
 -- ---- lines with another number after `.p`
 
-recountAs : Line → ℕ → List ℕ → List ℕ
-recountAs Empty r l = l
-recountAs (Sized p n) r l = l
-recountAs (Typed t) r l = l
-recountAs (Rows v) r l = countText r
-recountAs (Row m) r l = l
-recountAs End r l = l
-recountAs Fault r l = l
+-- a line that is `.p`, by its test
+count-line : (l : Line) → isHeader Count l ≡ true → (v : ℕ) × (l ≡ Rows v)
+count-line Empty e = absurd (false≢true e)
+count-line (Sized p n) e = absurd (false≢true e)
+count-line (Typed t) e = absurd (false≢true e)
+count-line (Rows v) e = (v, refl)
+count-line (Row m) e = absurd (false≢true e)
+count-line End e = absurd (false≢true e)
+count-line Fault e = absurd (false≢true e)
+
+-- another line leaves the number after `.p` as it is
+want-stays : (st : State) (l : Line) (k : ℕ) → isHeader Count l ≡ false → nextOf st l k .want ≡ st .want
+want-stays st Empty k e = refl
+want-stays st (Sized p n) k e = refl
+want-stays st (Typed t) k e = refl
+want-stays st (Rows v) k e = absurd (false≢true (sym e))
+want-stays st (Row m) k e = refl
+want-stays st End k e = refl
+want-stays st Fault k e = refl
+
+recountAs : Bool → ℕ → List ℕ → List ℕ
+recountAs c r l = cond c (countText r) l
 
 recount : ℕ → List (List ℕ) → List (List ℕ)
 recount r [] = []
-recount r (l ∷ ls) = recountAs (lineOf l) r l ∷ recount r ls
+recount r (l ∷ ls) = recountAs (isHeader Count (lineOf l)) r l ∷ recount r ls
 
-recount-alike-line : (x : Line) (r : ℕ) (l : List ℕ) → lineOf l ≡ x → (l ≡ recountAs x r l) ⊎ (Counts l × Counts (recountAs x r l))
+recount-alike-line : (c : Bool) (r : ℕ) (l : List ℕ) → isHeader Count (lineOf l) ≡ c → (l ≡ recountAs c r l) ⊎ (Counts l × Counts (recountAs c r l))
 unfolding recountAs
-recount-alike-line Empty r l e = inl refl
-recount-alike-line (Sized p n) r l e = inl refl
-recount-alike-line (Typed t) r l e = inl refl
-recount-alike-line (Rows v) r l e = inr ((v, e), (r, count-text r))
-recount-alike-line (Row m) r l e = inl refl
-recount-alike-line End r l e = inl refl
-recount-alike-line Fault r l e = inl refl
+recount-alike-line true r l e = inr (count-line (lineOf l) e, (r, count-text r))
+recount-alike-line false r l e = inl refl
 
 recount-alike : (r : ℕ) (ls : List (List ℕ)) → Alike ls (recount r ls)
 unfolding recount
 recount-alike r [] = tt
-recount-alike r (l ∷ ls) = (recount-alike-line (lineOf l) r l refl, recount-alike r ls)
+recount-alike r (l ∷ ls) = (recount-alike-line (isHeader Count (lineOf l)) r l refl, recount-alike r ls)
 
-recount-clean-line : (x : Line) (r : ℕ) (l : List ℕ) → NoFeed l → NoFeed (recountAs x r l)
+recount-clean-line : (c : Bool) (r : ℕ) (l : List ℕ) → NoFeed l → NoFeed (recountAs c r l)
 unfolding recountAs
-recount-clean-line Empty r l h = h
-recount-clean-line (Sized p n) r l h = h
-recount-clean-line (Typed t) r l h = h
-recount-clean-line (Rows v) r l h = count-no-feed r
-recount-clean-line (Row m) r l h = h
-recount-clean-line End r l h = h
-recount-clean-line Fault r l h = h
+recount-clean-line true r l h = count-no-feed r
+recount-clean-line false r l h = h
 
 recount-clean : (r : ℕ) (ls : List (List ℕ)) → NoFeeds ls → NoFeeds (recount r ls)
 unfolding recount
 recount-clean r [] h = tt
-recount-clean r (l ∷ ls) h = (recount-clean-line (lineOf l) r l (h .0), recount-clean r ls (h .1))
+recount-clean r (l ∷ ls) h = (recount-clean-line (isHeader Count (lineOf l)) r l (h .0), recount-clean r ls (h .1))
 
-recount-is-row : (x : Line) (r : ℕ) (l : List ℕ) → lineOf l ≡ x → isRow (lineOf (recountAs x r l)) ≡ isRow x
+recount-view : (c : Bool) (r : ℕ) (l : List ℕ) → isHeader Count (lineOf l) ≡ c → viewOf (lineOf (recountAs c r l)) ≡ viewOf (lineOf l)
 unfolding recountAs
-recount-is-row Empty r l e = ap isRow e
-recount-is-row (Sized p n) r l e = ap isRow e
-recount-is-row (Typed t) r l e = ap isRow e
-recount-is-row (Rows v) r l e = ap isRow (count-text r)
-recount-is-row (Row m) r l e = ap isRow e
-recount-is-row End r l e = ap isRow e
-recount-is-row Fault r l e = ap isRow e
+recount-view true r l e = ap viewOf (count-text r) ∙ sym (ap viewOf (count-line (lineOf l) e .1))
+recount-view false r l e = refl
 
 recount-rows : (r : ℕ) (ls : List (List ℕ)) → rowsIn (recount r ls) ≡ rowsIn ls
 unfolding recount rowsIn
 recount-rows r [] = refl
-recount-rows r (l ∷ ls) = rw (recount-is-row (lineOf l) r l refl, recount-rows r ls)
+recount-rows r (l ∷ ls) = rw (recount-view (isHeader Count (lineOf l)) r l refl, recount-rows r ls)
 
 -- a state whose `.p`, if it stood there, has the number r
 abbrev Wants : ℕ → State → Type 0
 Wants r st = st .seen .count ≡ true → st .want ≡ r
 
-recount-want-line : (x : Line) (r : ℕ) (l : List ℕ) (st : State) (k : ℕ) → lineOf l ≡ x → Wants r st → Wants r (nextOf st (lineOf (recountAs x r l)) k)
+recount-want-line : (c : Bool) (r : ℕ) (l : List ℕ) (st : State) (k : ℕ) → isHeader Count (lineOf l) ≡ c → Wants r st → Wants r (nextOf st (lineOf (recountAs c r l)) k)
 unfolding recountAs
-recount-want-line Empty r l st k e h = rw e h
-recount-want-line (Sized p n) r l st k e h = rw e (λ c. h (sym (has-next st (Sized p n) k Count) ∙ c))
-recount-want-line (Typed t) r l st k e h = rw e h
-recount-want-line (Rows v) r l st k e h = rw (count-text r) (λ c. refl)
-recount-want-line (Row m) r l st k e h = rw e h
-recount-want-line End r l st k e h = rw e h
-recount-want-line Fault r l st k e h = rw e h
+recount-want-line true r l st k e h = rw (count-text r) (λ c. refl)
+recount-want-line false r l st k e h = λ c. want-stays st (lineOf l) k e ∙ h (sym (has-next st (lineOf l) k Count ∙ ap (λ (t : Bool). t || st .seen .count) e) ∙ c)
 
 recount-wants : (r : ℕ) (ls : List (List ℕ)) (st : State) (k : ℕ) → Wants r st → Wants r (after (recount r ls) st k)
 unfolding recount stateAfter nextAt
 recount-wants r [] st k h = h
 recount-wants r (l ∷ ls) st k h =
-    recount-wants r ls (nextOf st (lineOf (recountAs (lineOf l) r l)) k) (k + 1) (recount-want-line (lineOf l) r l st k refl h)
+    recount-wants r ls (nextOf st (lineOf (recountAs (isHeader Count (lineOf l)) r l)) k) (k + 1) (recount-want-line (isHeader Count (lineOf l)) r l st k refl h)
 
 -- ---- lines begin an accepted text exactly when they all pass
 

@@ -8,10 +8,12 @@ use native.Mathlib.Omega.{arith}
 use lib.Dec.{eqb}
 use borrow.Author.Tests.{eq-eqb, eqb-true, not-true}
 use Rattle.table.proofs.Basics.{and-i, and-l, and-r}
+use Rattle.lines.specs.Lines.{viewOf}
 use Rattle.lines.specs.declared.Part.{Part}
 use Rattle.lines.specs.declared.Part.the-variants.{Ins, Outs}
 use Rattle.lines.specs.declared.Kind.{Kind}
 use Rattle.lines.specs.declared.Kind.the-variants.{Recording, Sheet}
+use Rattle.lines.specs.declared.View.{View}
 use Rattle.lines.specs.declared.Line.{Line}
 use Rattle.lines.specs.declared.Line.the-variants.{Empty, Sized, Typed, Rows, Row, End, Fault}
 use Rattle.headers.specs.Headers.{everyHeader, hasHeader, lacks, lacksNone, readyOf, sameKind, openOf, headerAllowed, endAllowed, allowedOf, withHeader, nextOf}
@@ -87,30 +89,26 @@ has-next st (Row m) k h = refl
 has-next st End k h = refl
 has-next st Fault k h = refl
 
-pub next-rows : (st : State) (l : Line) (k : ℕ) → nextOf st l k .rows ≡ st .rows + one (isRow l)
-next-rows st Empty k = omega arith
-next-rows st (Sized p n) k = omega arith
-next-rows st (Typed t) k = omega arith
-next-rows st (Rows n) k = omega arith
-next-rows st (Row m) k = refl
-next-rows st End k = omega arith
-next-rows st Fault k = omega arith
+-- the number of rows and the end mark go by the line's view
+pub record Goes (v : View) (st next : State) : Type 0 where
+  pub rows : next .rows ≡ st .rows + one (isRow v)
+  pub ended : next .ended ≡ (isEnd v || st .ended)
+
+pub next-goes : (st : State) (l : Line) (k : ℕ) → Goes (viewOf l) st (nextOf st l k)
+next-goes st Empty k = record { rows = omega arith; ended = refl }
+next-goes st (Sized p n) k = record { rows = omega arith; ended = refl }
+next-goes st (Typed t) k = record { rows = omega arith; ended = refl }
+next-goes st (Rows n) k = record { rows = omega arith; ended = refl }
+next-goes st (Row m) k = record { rows = refl; ended = refl }
+next-goes st End k = record { rows = omega arith; ended = refl }
+next-goes st Fault k = record { rows = omega arith; ended = refl }
 
 pub one-le : (b : Bool) → one b ≤ 1
 one-le true = omega arith
 one-le false = omega arith
 
 pub rows-next-le : (st : State) (l : Line) (k : ℕ) → nextOf st l k .rows ≤ st .rows + 1
-rows-next-le st l k = omega (arith, next-rows st l k, one-le (isRow l))
-
-pub next-ended : (st : State) (l : Line) (k : ℕ) → nextOf st l k .ended ≡ (isEnd l || st .ended)
-next-ended st Empty k = refl
-next-ended st (Sized p n) k = refl
-next-ended st (Typed t) k = refl
-next-ended st (Rows n) k = refl
-next-ended st (Row m) k = refl
-next-ended st End k = refl
-next-ended st Fault k = refl
+rows-next-le st l k = omega (arith, next-goes st l k .rows, one-le (isRow (viewOf l)))
 
 -- ---- what is missing
 

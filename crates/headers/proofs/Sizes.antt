@@ -1,11 +1,14 @@
 -- An accepted text is for a panel of 1 to 10 relays, and every row of it has that many columns and fits the layout.
 use Prim.Native.Nat.{ℕ, _+_, _≤_}
 use mathlib.Core.Path.{_≡_, refl}
+use mathlib.Core.Logic.{inl, inr}
 use mathlib.Core.List.{List, [], _∷_, _++_}
 use native.Mathlib.Omega.{arith}
-use Rattle.lines.specs.Lines.{lineOf}
+use Rattle.lines.specs.Lines.{lineOf, viewOf}
 use Rattle.lines.specs.Bounds.{LineOk}
 use Rattle.lines.specs.declared.Part.the-variants.{Ins}
+use Rattle.lines.specs.declared.View.{View}
+use Rattle.lines.specs.declared.View.the-variants.{Cells, EndMark, Aside}
 use Rattle.lines.specs.declared.Line.{Line}
 use Rattle.lines.specs.declared.Line.the-variants.{Empty, Sized, Typed, Rows, Row, End, Fault}
 use Rattle.lines.proofs.BoundLaws.{line-ok}
@@ -31,14 +34,13 @@ pub text-size : (lay : Layout) (n : ℕ) (ls : List (List ℕ)) → Text lay n l
 text-size lay n ls t = size-top lay n _ (t .top) (t .headers) (omega (arith, t .asked (Size Ins) refl))
 
 -- a row has n columns and fits the layout
+abbrev pub ViewFits : Layout → ℕ → View → Type 0
+ViewFits lay n (Cells m) = Fits lay n m
+ViewFits lay n EndMark = Unit {0}
+ViewFits lay n Aside = Unit {0}
+
 abbrev pub RowFits : Layout → ℕ → Line → Type 0
-RowFits lay n Empty = Unit {0}
-RowFits lay n (Sized p s) = Unit {0}
-RowFits lay n (Typed t) = Unit {0}
-RowFits lay n (Rows v) = Unit {0}
-RowFits lay n (Row m) = Fits lay n m
-RowFits lay n End = Unit {0}
-RowFits lay n Fault = Unit {0}
+RowFits lay n l = ViewFits lay n (viewOf l)
 
 header-fits : (lay : Layout) (n r : ℕ) (l : Line) → HeaderLine lay n r l → RowFits lay n l
 header-fits lay n r Empty p = tt
@@ -50,13 +52,8 @@ header-fits lay n r End p = tt
 header-fits lay n r Fault p = tt
 
 row-fits : (lay : Layout) (n : ℕ) (l : Line) → RowLine lay n l → RowFits lay n l
-row-fits lay n Empty p = tt
-row-fits lay n (Sized q s) p = tt
-row-fits lay n (Typed t) p = tt
-row-fits lay n (Rows v) p = tt
-row-fits lay n (Row m) p = p
-row-fits lay n End p = tt
-row-fits lay n Fault p = tt
+row-fits lay n l (inl e) = rw e tt
+row-fits lay n l (inr p) = rw (p .1) (p .2)
 
 all-map : (P Q : Line → Type 0) → ((l : Line) → P l → Q l) → (ls : List (List ℕ)) → All P ls → All Q ls
 all-map P Q f [] a = tt

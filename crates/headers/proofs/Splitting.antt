@@ -2,6 +2,7 @@
 use Prim.Native.Nat.{ℕ, _+_}
 use mathlib.Core.Path.{_≡_, refl, sym, _∙_, ap}
 use mathlib.Core.List.{List, [], _∷_, _++_}
+use mathlib.Core.Logic.{inl, inr}
 use mathlib.Core.Bool.{true, false, false≢true}
 use native.Mathlib.Omega.{arith}
 use lib.Dec.{eqb}
@@ -86,7 +87,7 @@ body-line lay l ls st k Empty x e n a h d more =
       mark = b .mark;
       rest = b .rest;
       lines = ap (λ (y : List (List ℕ)). l ∷ y) (b .lines);
-      rows = (rw x tt, b .rows);
+      rows = (inl x, b .rows);
       ends = b .ends;
       empty = b .empty;
       number = rw x (omega (arith, b .number));
@@ -104,7 +105,7 @@ body-line lay l ls st k (Row m) x e n a h d more =
       mark = b .mark;
       rest = b .rest;
       lines = ap (λ (y : List (List ℕ)). l ∷ y) (b .lines);
-      rows = (rw x (r .1), b .rows);
+      rows = (inr (m, x, r .1), b .rows);
       ends = b .ends;
       empty = b .empty;
       number = rw x (omega (arith, b .number));
@@ -203,7 +204,7 @@ split-line lay l ls st k (Row m) x o e n a h d w more =
       lines = ap (λ (y : List (List ℕ)). l ∷ y) (b .lines);
       headers = tt;
       tally = λ h. rw (b .seen) (omega arith);
-      rows = (rw (x, b .size) (r .1), rw (b .size) (b .rows));
+      rows = (inr (m, x, rw (b .size) (r .1)), rw (b .size) (b .rows));
       ends = b .ends;
       empty = b .empty;
       number = rw x (omega (arith, b .number));

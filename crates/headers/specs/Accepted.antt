@@ -2,12 +2,15 @@
 use Prim.Native.Nat.{ℕ, _+_, _^_, _≤_, _<_}
 use mathlib.Core.Path.{_≡_}
 use mathlib.Core.List.{List, [], _∷_, _++_}
+use mathlib.Core.Logic.{_⊎_}
 use mathlib.Core.Bool.{Bool, true, false, cond}
 use Rattle.fields.specs.Texts.{linesOf}
-use Rattle.lines.specs.Lines.{lineOf}
+use Rattle.lines.specs.Lines.{lineOf, viewOf}
 use Rattle.lines.specs.declared.Masks.{Masks}
 use Rattle.lines.specs.declared.Part.{Part}
 use Rattle.lines.specs.declared.Part.the-variants.{Ins, Outs}
+use Rattle.lines.specs.declared.View.{View}
+use Rattle.lines.specs.declared.View.the-variants.{Cells, EndMark, Aside}
 use Rattle.lines.specs.declared.Line.{Line}
 use Rattle.lines.specs.declared.Line.the-variants.{Empty, Sized, Typed, Rows, Row, End, Fault}
 use Rattle.headers.specs.Layouts.{asks}
@@ -45,14 +48,10 @@ isHeader h End = false
 isHeader h Fault = false
 
 -- a line is a row
-abbrev pub isRow : Line → Bool
-isRow Empty = false
-isRow (Sized p n) = false
-isRow (Typed t) = false
-isRow (Rows v) = false
-isRow (Row m) = true
-isRow End = false
-isRow Fault = false
+abbrev pub isRow : View → Bool
+isRow (Cells m) = true
+isRow EndMark = false
+isRow Aside = false
 
 -- 1 for yes, 0 for no
 abbrev pub one : Bool → ℕ
@@ -66,7 +65,7 @@ times h (l ∷ ls) = one (isHeader h (lineOf l)) + times h ls
 -- the number of rows among lines
 unfoldable pub rowsIn : List (List ℕ) → ℕ
 rowsIn [] = 0
-rowsIn (l ∷ ls) = one (isRow (lineOf l)) + rowsIn ls
+rowsIn (l ∷ ls) = one (isRow (viewOf (lineOf l))) + rowsIn ls
 
 -- a row of n columns that fits the layout: `-` only where it is allowed, and where one output of `1` is asked for, it is that of a relay h
 pub record Fits (lay : Layout) (n : ℕ) (m : Masks) : Type 0 where
@@ -85,15 +84,9 @@ HeaderLine lay n r (Row m) = ⊥
 HeaderLine lay n r End = ⊥
 HeaderLine lay n r Fault = ⊥
 
--- an empty line, or a row
+-- an empty line, or a row that fits
 abbrev pub RowLine : Layout → ℕ → Line → Type 0
-RowLine lay n Empty = Unit {0}
-RowLine lay n (Sized p s) = ⊥
-RowLine lay n (Typed t) = ⊥
-RowLine lay n (Rows v) = ⊥
-RowLine lay n (Row m) = Fits lay n m
-RowLine lay n End = ⊥
-RowLine lay n Fault = ⊥
+RowLine lay n l = (l ≡ Empty) ⊎ ((m : Masks) × (l ≡ Row m) × Fits lay n m)
 
 -- every one of some lines is such
 abbrev pub All : (Line → Type 0) → List (List ℕ) → Type 0

@@ -6,9 +6,10 @@ use mathlib.Core.Logic.{_⊎_}
 use mathlib.Core.Bool.{Bool, true, false, _||_}
 use lib.ListN.{length}
 use Rattle.fields.specs.Texts.{linesOf}
-use Rattle.lines.specs.Lines.{lineOf}
-use Rattle.lines.specs.declared.Line.{Line}
-use Rattle.lines.specs.declared.Line.the-variants.{Empty, Sized, Typed, Rows, Row, End, Fault}
+use Rattle.lines.specs.Lines.{lineOf, viewOf}
+use Rattle.lines.specs.declared.View.{View}
+use Rattle.lines.specs.declared.View.the-variants.{Cells, EndMark, Aside}
+use Rattle.lines.specs.declared.Line.the-variants.{Rows}
 use Rattle.headers.specs.Accepted.{rowsIn, Accepted}
 use Rattle.headers.specs.declared.Layout.{Layout}
 
@@ -34,19 +35,15 @@ pub record Begins (lay : Layout) (ls : List (List ℕ)) : Type 0 where
   pub accepted : Accepted lay size text
 
 -- a line is the end mark
-abbrev pub isEnd : Line → Bool
-isEnd Empty = false
-isEnd (Sized p n) = false
-isEnd (Typed t) = false
-isEnd (Rows v) = false
-isEnd (Row m) = false
-isEnd End = true
-isEnd Fault = false
+abbrev pub isEnd : View → Bool
+isEnd (Cells m) = false
+isEnd EndMark = true
+isEnd Aside = false
 
 -- the end mark stands among lines
 unfoldable pub endIn : List (List ℕ) → Bool
 endIn [] = false
-endIn (l ∷ ls) = isEnd (lineOf l) || endIn ls
+endIn (l ∷ ls) = isEnd (viewOf (lineOf l)) || endIn ls
 
 -- line number k is faulty: the lines before it begin an accepted text, and with it they begin none
 pub record FaultyLine (lay : Layout) (t : List ℕ) (k : ℕ) : Type 0 where

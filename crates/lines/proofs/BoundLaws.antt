@@ -18,8 +18,8 @@ use Rattle.fields.specs.declared.Number.{Number}
 use Rattle.fields.specs.declared.Number.the-variants.{Value, NoNumber}
 use Rattle.fields.proofs.FieldLaws.{ne-lt}
 use Rattle.fields.proofs.ValueLaws.{Under, cube-under}
-use Rattle.lines.specs.Lines.{keyOf, sizedOf, typedOf, countOf, stopOf, keyLine, rowOf, rowLine, startLine, classOf, ofFields, lineOf, keepLine}
-use Rattle.lines.specs.Bounds.{LineOk}
+use Rattle.lines.specs.Lines.{keyOf, sizedOf, typedOf, countOf, stopOf, keyLine, rowOf, rowLine, startLine, classOf, ofFields, lineOf, keepLine, viewOf}
+use Rattle.lines.specs.Bounds.{LineOk, ViewOk}
 use Rattle.lines.specs.declared.Part.{Part}
 use Rattle.lines.specs.declared.Kind.the-variants.{Recording, Sheet}
 use Rattle.lines.specs.declared.Key.{Key}
@@ -109,3 +109,24 @@ kept-ok (Rows v) h = h
 kept-ok (Row m) h = h
 kept-ok End h = h
 kept-ok Fault h = h
+
+-- ---- the view of a line
+
+pub view-ok : (l : Line) → LineOk l → ViewOk (viewOf l)
+view-ok Empty h = tt
+view-ok (Sized p n) h = tt
+view-ok (Typed t) h = tt
+view-ok (Rows v) h = tt
+view-ok (Row m) h = h
+view-ok End h = tt
+view-ok Fault h = tt
+
+-- a line as the code keeps it has the same view
+pub view-kept : (l : Line) → viewOf (keepLine l) ≡ viewOf l
+view-kept Empty = refl
+view-kept (Sized p n) = refl
+view-kept (Typed t) = refl
+view-kept (Rows v) = refl
+view-kept (Row m) = refl
+view-kept End = refl
+view-kept Fault = refl

@@ -1,6 +1,8 @@
 -- What every line that is read keeps to: sizes of 1 to 10, and masks of no more columns than the row has.
 use Prim.Native.Nat.{_^_, _<_, _≤_}
 use Rattle.lines.specs.declared.Masks.{Masks}
+use Rattle.lines.specs.declared.View.{View}
+use Rattle.lines.specs.declared.View.the-variants.{Cells, EndMark, Aside}
 use Rattle.lines.specs.declared.Line.{Line}
 use Rattle.lines.specs.declared.Line.the-variants.{Empty, Sized, Typed, Rows, Row, End, Fault}
 
@@ -22,3 +24,9 @@ LineOk (Rows v) = Unit {0}
 LineOk (Row m) = RowOk m
 LineOk End = Unit {0}
 LineOk Fault = Unit {0}
+
+-- a row keeps to its bounds
+abbrev pub ViewOk : View → Type 0
+ViewOk (Cells m) = RowOk m
+ViewOk EndMark = Unit {0}
+ViewOk Aside = Unit {0}

@@ -19,6 +19,8 @@ use Rattle.lines.specs.declared.Part.the-variants.{Ins, Outs}
 use Rattle.lines.specs.declared.Kind.the-variants.{Recording, Sheet}
 use Rattle.lines.specs.declared.Key.{Key}
 use Rattle.lines.specs.declared.Key.the-variants.{Size, TypeWord, Count, Stop, NoKey}
+use Rattle.lines.specs.declared.View.{View}
+use Rattle.lines.specs.declared.View.the-variants.{Cells, EndMark, Aside}
 use Rattle.lines.specs.declared.Line.{Line}
 use Rattle.lines.specs.declared.Line.the-variants.{Empty, Sized, Typed, Rows, Row, End, Fault}
 
@@ -103,3 +105,13 @@ keepLine (Rows v) = Rows (min v most)
 keepLine (Row m) = Row m
 keepLine End = End
 keepLine Fault = Fault
+
+-- a line to those who only care for rows and the end mark: the cells of a row, the end mark, or neither
+abbrev pub viewOf : Line → View
+viewOf Empty = Aside
+viewOf (Sized p n) = Aside
+viewOf (Typed t) = Aside
+viewOf (Rows v) = Aside
+viewOf (Row m) = Cells m
+viewOf End = EndMark
+viewOf Fault = Aside

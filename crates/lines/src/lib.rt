@@ -5,7 +5,7 @@ use fields::Number;
 use fields::Stretch;
 ghost use mathlib.Core.Path.{_≡_};
 ghost use Rattle.fields.specs.Fields.{fieldsIn};
-ghost use Rattle.lines.specs.Lines.{keyOf, rowOf, rowLine, sizedOf, typedOf, countOf, stopOf, keyLine, classOf, lineOf, keepLine};
+ghost use Rattle.lines.specs.Lines.{keyOf, rowOf, rowLine, sizedOf, typedOf, countOf, stopOf, keyLine, classOf, lineOf, keepLine, viewOf};
 
 // What a text is: `.type fr` stands in a recording and `.type f` in a sheet.
 pub enum Kind {
@@ -45,6 +45,13 @@ pub enum Line {
     Row(Masks),
     End,
     Fault,
+}
+
+// A line to those who only care for rows and the end mark: the cells of a row, the end mark, or neither.
+pub enum View {
+    Cells(Masks),
+    EndMark,
+    Aside,
 }
 
 fn key_of(w: &[u8]) -> Key
@@ -205,4 +212,18 @@ pub fn scan_line(line: &[u8]) -> Line
     let from = p.from;
     let to = p.to;
     classify(&s[from..to], &s[to..])
+}
+
+pub fn view_of(l: Line) -> View
+    ensures { λ r. ⌜ r ≡ viewOf l ⌝ }
+{
+    match l {
+        Line::Empty => View::Aside,
+        Line::Sized(_, _) => View::Aside,
+        Line::Typed(_) => View::Aside,
+        Line::Rows(_) => View::Aside,
+        Line::Row(m) => View::Cells(m),
+        Line::End => View::EndMark,
+        Line::Fault => View::Aside,
+    }
 }

@@ -17,9 +17,8 @@ use Rattle.fields.proofs.TextLaws.{line-at}
 use Rattle.lines.specs.Lines.{lineOf, keepLine}
 use Rattle.lines.specs.Bounds.{LineOk}
 use Rattle.lines.specs.declared.Line.{Line}
-use Rattle.lines.specs.declared.Line.the-variants.{Empty, Sized, Typed, Rows, Row, End, Fault}
-use Rattle.lines.proofs.BoundLaws.{line-ok, kept-ok}
-use Rattle.recording.specs.Rows.{lineWords, linesWords}
+use Rattle.lines.proofs.BoundLaws.{line-ok, kept-ok, view-kept}
+use Rattle.recording.specs.Rows.{viewWords, lineWords, linesWords}
 use Rattle.recording.specs.Reading.{filledOf}
 use Rattle.recording.specs.declared.Filled.the-variants.{To, Full}
 
@@ -57,13 +56,7 @@ put-word list list₀ ws from at w h e = rw (add-one at, take-suc-set list at w 
 
 -- a line as the code keeps it has the line's words, and keeps to the bounds of a line
 words-kept : (l : Line) → lineWords (keepLine l) ≡ lineWords l
-words-kept Empty = refl
-words-kept (Sized p n) = refl
-words-kept (Typed t) = refl
-words-kept (Rows v) = refl
-words-kept (Row m) = refl
-words-kept End = refl
-words-kept Fault = refl
+words-kept l = ap viewWords (view-kept l)
 
 pub scanned-ok : (s : List ℕ) (l : Line) → l ≡ keepLine (lineOf s) → LineOk l
 scanned-ok s l h = rw h (kept-ok (lineOf s) (line-ok s))

@@ -12,16 +12,16 @@ use Rattle.panel.specs.Masks.{panelSize}
 use Rattle.panel.specs.Transitions.{transitionWord, validTransition}
 use Rattle.panel.proofs.Transitions.{word-valid}
 use Rattle.fields.specs.Texts.{linesOf}
-use Rattle.lines.specs.Lines.{lineOf}
-use Rattle.lines.specs.Bounds.{RowOk, LineOk}
+use Rattle.lines.specs.Lines.{lineOf, viewOf}
+use Rattle.lines.specs.Bounds.{RowOk, ViewOk}
 use Rattle.lines.specs.declared.Masks.{Masks}
-use Rattle.lines.specs.declared.Line.{Line}
-use Rattle.lines.specs.declared.Line.the-variants.{Empty, Sized, Typed, Rows, Row, End, Fault}
-use Rattle.lines.proofs.BoundLaws.{line-ok}
+use Rattle.lines.specs.declared.View.{View}
+use Rattle.lines.specs.declared.View.the-variants.{Cells, EndMark, Aside}
+use Rattle.lines.proofs.BoundLaws.{line-ok, view-ok}
 use Rattle.headers.specs.Layouts.{recording}
 use Rattle.headers.specs.Accepted.{All, Accepted}
-use Rattle.headers.proofs.Sizes.{RowFits, text-size, text-rows}
-use Rattle.recording.specs.Rows.{matchesOf, wordsBelow, lineWords, linesWords, textWords}
+use Rattle.headers.proofs.Sizes.{ViewFits, RowFits, text-size, text-rows}
+use Rattle.recording.specs.Rows.{matchesOf, wordsBelow, viewWords, lineWords, linesWords, textWords}
 
 all-append : (f : ℕ → Bool) (s t : List ℕ) → all f s ≡ true → all f t ≡ true → all f (s ++ t) ≡ true
 all-append f [] t h k = k
@@ -37,19 +37,15 @@ below-valid m o (suc i) l =
     go true = and-i _ true (word-valid (m .width) i (m .next) (o .few) (omega arith) (o .next-small)) refl
     go false = refl
 
-line-valid : (n : ℕ) (l : Line) → LineOk l → RowFits recording n l → all (validTransition n) (lineWords l) ≡ true
-line-valid n Empty o s = refl
-line-valid n (Sized p k) o s = refl
-line-valid n (Typed t) o s = refl
-line-valid n (Rows v) o s = refl
-line-valid n (Row m) o s = ap (λ (k : ℕ). all (validTransition k) (wordsBelow m (2 ^ (m .width)))) (sym (s .width)) ∙ below-valid m o (2 ^ (m .width)) (omega arith)
-line-valid n End o s = refl
-line-valid n Fault o s = refl
+view-valid : (n : ℕ) (v : View) → ViewOk v → ViewFits recording n v → all (validTransition n) (viewWords v) ≡ true
+view-valid n (Cells m) o s = ap (λ (k : ℕ). all (validTransition k) (wordsBelow m (2 ^ (m .width)))) (sym (s .width)) ∙ below-valid m o (2 ^ (m .width)) (omega arith)
+view-valid n EndMark o s = refl
+view-valid n Aside o s = refl
 
 lines-valid : (n : ℕ) (ls : List (List ℕ)) → All (RowFits recording n) ls → all (validTransition n) (linesWords ls) ≡ true
 unfolding linesWords
 lines-valid n [] s = refl
-lines-valid n (l ∷ ls) s = all-append (validTransition n) (lineWords (lineOf l)) (linesWords ls) (line-valid n (lineOf l) (line-ok l) (s .0)) (lines-valid n ls (s .1))
+lines-valid n (l ∷ ls) s = all-append (validTransition n) (lineWords (lineOf l)) (linesWords ls) (view-valid n (viewOf (lineOf l)) (view-ok (lineOf l) (line-ok l)) (s .0)) (lines-valid n ls (s .1))
 
 module _ (t : List ℕ) (n : ℕ) (h : Accepted recording n t) where
   pub read-size : panelSize n ≡ true

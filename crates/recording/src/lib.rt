@@ -2,6 +2,7 @@
 use headers::Verdict;
 use lines::Line;
 use lines::Masks;
+use lines::View;
 ghost use mathlib.Core.Path.{_≡_};
 ghost use mathlib.Core.List.{_++_};
 ghost use Prim.Native.Nat.{_+_, _≤_};
@@ -69,14 +70,11 @@ fn fill_line(list: &mut [u32], from: usize, l: Line) -> Filled
     ensures room { λ r. ⌜ r ≡ filledOf from (length (lineWords l)) (length (now (list .entry))) ⌝ }
     ensures words { λ r. ⌜ (from + length (lineWords l) ≤ length (now (list .entry)) → take (from + length (lineWords l)) (now (list .exit)) ≡ take from (now (list .entry)) ++ lineWords l) ⌝ }
 {
-    match l {
-        Line::Row(m) => expand(list, from, m),
-        Line::Empty => Filled::To(from),
-        Line::Sized(_, _) => Filled::To(from),
-        Line::Typed(_) => Filled::To(from),
-        Line::Rows(_) => Filled::To(from),
-        Line::End => Filled::To(from),
-        Line::Fault => Filled::To(from),
+    let v = lines::view_of(l);
+    match v {
+        View::Cells(m) => expand(list, from, m),
+        View::EndMark => Filled::To(from),
+        View::Aside => Filled::To(from),
     }
 }
 

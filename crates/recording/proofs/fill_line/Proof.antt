@@ -1,52 +1,44 @@
 -- `recording::fill_line` meets its contract.
+use Rattle.lines.proofs.BoundLaws.{view-ok}
 use Rattle.recording.proofs.FillLaws.{fill-nothing}
 use borrow.Author.Needs.{needs}
+use mathlib.Core.Path.{sym, _∙_}
 use Rattle.recording.proofs.fill_line.Statement.{statement}
 use Rattle.recording.proofs.fill_line.Tie as tie
 
 expand-requires : tie.Need-expand-requires
 expand-requires c κs =
-    let start = c .before .before .before .before .before in
-    (start .pre .0, rw (c .before .before .l .given .1) at (start .pre .1))
+    let known = c .before .before in
+    let seen = known .before .before in
+    let start = seen .before .before in
+    (start .pre .0, rw (sym (seen .view-of .ensures) ∙ known .v .given .1) at (view-ok (start .args .l) (start .pre .1)))
 
 returns : tie.Need-returns
-returns c = rw (c .before .before .before .before .before .l .given .1) (c .before .before .expand .ensures)
+returns c =
+    let done = c .before .before in
+    let known = done .before .before .before in
+    rw (sym (known .before .before .view-of .ensures) ∙ known .v .given .1) (done .expand .ensures)
 
 returns-2 : tie.Need-returns-2
-returns-2 c = rw (c .enum-told .given .1) (fill-nothing _ _ (c .before .before .before .pre .0))
+returns-2 c =
+    let seen = c .before .before in
+    rw (sym (seen .view-of .ensures) ∙ c .enum-told .given .1) (fill-nothing _ _ (seen .before .before .pre .0))
 
 returns-3 : tie.Need-returns-3
-returns-3 c = rw (c .enum-told2 .given .1) (fill-nothing _ _ (c .before .before .before .pre .0))
-
-returns-4 : tie.Need-returns-4
-returns-4 c = rw (c .enum-told3 .given .1) (fill-nothing _ _ (c .before .before .before .pre .0))
-
-returns-5 : tie.Need-returns-5
-returns-5 c = rw (c .enum-told4 .given .1) (fill-nothing _ _ (c .before .before .before .pre .0))
-
-returns-6 : tie.Need-returns-6
-returns-6 c = rw (c .enum-told5 .given .1) (fill-nothing _ _ (c .before .before .before .pre .0))
-
-returns-7 : tie.Need-returns-7
-returns-7 c = rw (c .enum-told6 .given .1) (fill-nothing _ _ (c .before .before .before .pre .0))
+returns-3 c =
+    let seen = c .before .before in
+    rw (sym (seen .view-of .ensures) ∙ c .enum-told2 .given .1) (fill-nothing _ _ (seen .before .before .pre .0))
 
 pub fill-line-spec : {M : Type 1} → statement M
 fill-line-spec =
     tie.close
     (tie.spec
+    (λ c κs. search needs)
     (λ c. search needs)
     expand-requires
     (λ c. search needs)
     (λ c. search needs)
     (λ c. search needs)
-    (λ c. search needs)
-    (λ c. search needs)
-    (λ c. search needs)
-    (λ c. search needs)
     returns
     returns-2
-    returns-3
-    returns-4
-    returns-5
-    returns-6
-    returns-7)
+    returns-3)
