@@ -1,5 +1,5 @@
 -- The sheet of a set of transitions in the words of document 01: exactly the prime rules. And the join of two such sheets.
-use mathlib.Core.Path.{_≡_, _∙_}
+use mathlib.Core.Path.{_≡_, sym, _∙_}
 use mathlib.Core.Logic.{_⊎_, inl, inr}
 use mathlib.Core.Bool.{true}
 use mathlib.Core.List.{List, _++_, List·Memᴰ as Mem, List·Memᴰ·append-cases, Memᴰ·append-left, Memᴰ·append-right}
