@@ -8,7 +8,7 @@ use lib.ListN.{take, drop}
 use Rattle.table.specs.Lists.{increasing}
 use Rattle.table.specs.Surgery.{placeOf}
 use Rattle.table.proofs.Tables.{place-up}
-use Rattle.table.proofs.Between.{between-e, between-i, between-places}
+use Rattle.table.proofs.Between.{between-e, between-i, between-increasing, between-places}
 use Rattle.panel.specs.Rules.{head, ofHead}
 use Rattle.panel.proofs.Words.{head-range, range-head}
 
@@ -20,6 +20,10 @@ stretch-e h s w m = let k = between-e (h * 1048576) ((h + 1) * 1048576) s w m in
 pub stretch-i : (h : ℕ) (s : List ℕ) (w : ℕ) → Mem w s → head w ≡ h → Mem w (ofHead h s)
 unfolding ofHead
 stretch-i h s w m e = let k = head-range h w e in between-i (h * 1048576) ((h + 1) * 1048576) s w m (k .0) (k .1)
+
+pub stretch-increasing : (h : ℕ) (s : List ℕ) → increasing s ≡ true → increasing (ofHead h s) ≡ true
+unfolding ofHead
+stretch-increasing h s i = between-increasing (h * 1048576) ((h + 1) * 1048576) s i
 
 -- by the places of two words
 pub stretch-places : (h : ℕ) (s : List ℕ) → increasing s ≡ true → (lo hi : ℕ) → lo ≡ placeOf (h * 1048576) s → hi ≡ placeOf ((h + 1) * 1048576) s

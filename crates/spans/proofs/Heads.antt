@@ -1,14 +1,16 @@
 -- From head to head, for any test: the part of a sheet that belongs to a head, and all heads in turn.
 use mathlib.Core.Path.{_≡_, refl, sym, ap, ap₂, _∙_, subst}
 use mathlib.Core.Bool.{Bool, true}
-use mathlib.Core.List.{List, _++_}
+use mathlib.Core.List.{List, _++_, List·Memᴰ as Mem}
 use Prim.Native.Nat.{ℕ, _+_, _*_, _≤_, _<_}
 use native.Mathlib.Omega.{arith}
 use lib.ListN.{length, take, drop, length-append}
 use Rattle.table.specs.Lists.{between}
-use Rattle.table.proofs.Between.{between-e, between-i, between-increasing, between-unique, between-none, between-whole, between-split}
+use Rattle.table.proofs.Increasing.{increasing-unique}
+use Rattle.table.proofs.Between.{between-none, between-whole, between-split}
 use Rattle.panel.specs.Rules.{head, ofHead}
-use Rattle.panel.proofs.Words.{head-range, range-head, narrows-e}
+use Rattle.panel.proofs.Words.{head-range, narrows-e}
+use Rattle.panel.proofs.Stretches.{stretch-e, stretch-i, stretch-increasing}
 use Rattle.prime.specs.Sheets.{sheetWhere}
 use Rattle.prime.proofs.Least.{Least, member-e, member-i, sheet-increasing}
 use Rattle.spans.specs.Parts.{over, Laid}
@@ -24,17 +26,18 @@ module _ (n : ℕ) (small : n ≤ 10) (h : ℕ) where
     smallest = λ r k p t. l .smallest r k p (f r (sym (narrows-e w r p .one-head) ∙ e) ∙ t);
   }
 
+  same-stretch : (q q′ : ℕ → Bool) → ((w : ℕ) → head w ≡ h → q w ≡ q′ w) → (w : ℕ) → Mem w (ofHead h (sheetWhere n q)) → Mem w (ofHead h (sheetWhere n q′))
+  same-stretch q q′ f w m =
+      let x = stretch-e h (sheetWhere n q) w m in
+      let k = member-e n small q w (x .0) in
+      stretch-i h (sheetWhere n q′) w (member-i n small q′ w (k .0) (least-head q q′ f w (x .1) (k .1))) (x .1)
+
   -- tests that agree on the words of a head keep the same words of that head
   pub head-ext : (q q′ : ℕ → Bool) → ((w : ℕ) → head w ≡ h → q w ≡ q′ w) → ofHead h (sheetWhere n q) ≡ ofHead h (sheetWhere n q′)
-  unfolding ofHead
   head-ext q q′ f =
-      between-unique (h * 1048576) ((h + 1) * 1048576) (sheetWhere n q) (between (h * 1048576) ((h + 1) * 1048576) (sheetWhere n q′)) (sheet-increasing n small q)
-      (between-increasing (h * 1048576) ((h + 1) * 1048576) (sheetWhere n q′) (sheet-increasing n small q′))
-      (λ w m a b. let k = member-e n small q w m in
-      between-i (h * 1048576) ((h + 1) * 1048576) (sheetWhere n q′) w (member-i n small q′ w (k .0) (least-head q q′ f w (range-head h w a b) (k .1))) a b)
-      (λ w m. let x = between-e (h * 1048576) ((h + 1) * 1048576) (sheetWhere n q′) w m in
-      let k = member-e n small q′ w (x .0) in
-      (member-i n small q w (k .0) (least-head q′ q (λ v e. sym (f v e)) w (range-head h w (x .1) (x .2)) (k .1)), x .1, x .2))
+      increasing-unique (ofHead h (sheetWhere n q)) (ofHead h (sheetWhere n q′))
+      (stretch-increasing h (sheetWhere n q) (sheet-increasing n small q)) (stretch-increasing h (sheetWhere n q′) (sheet-increasing n small q′))
+      (λ w m. same-stretch q q′ f w m) (λ w m. same-stretch q′ q (λ v e. sym (f v e)) w m)
 
   -- a head with no word at which the test passes has nothing to keep
   pub head-none : (q : ℕ → Bool) → ((w : ℕ) → q w ≡ true → ⊥) → 0 ≡ length (ofHead h (sheetWhere n q))
