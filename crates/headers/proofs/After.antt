@@ -8,8 +8,8 @@ use native.Mathlib.Omega.{arith}
 use lib.Dec.{eqb}
 use lib.ListN.{length}
 use borrow.Author.Tests.{eqb-true}
-use Rattle.table.proofs.Basics.{or-r}
-use Rattle.lines.specs.Lines.{lineOf}
+use Rattle.table.proofs.Basics.{or-r, false-test}
+use Rattle.lines.specs.Lines.{lineOf, recounted}
 use Rattle.lines.specs.declared.Line.{Line}
 use Rattle.lines.specs.declared.Line.the-variants.{Empty, Sized, Typed, Rows, Row, End, Fault}
 use Rattle.headers.specs.Headers.{hasHeader, fitsOf, allowedOf, nextOf, allowedAt, nextAt}
@@ -20,8 +20,8 @@ use Rattle.headers.specs.declared.Header.the-variants.{Size, Count}
 use Rattle.headers.specs.declared.State.{State}
 use Rattle.headers.proofs.Passing.{stateAfter, allPass, pass-here, pass-more, pass-others, after-append}
 use Rattle.headers.proofs.Machine.{passes, after}
-use Rattle.headers.proofs.Counts.{onCount, onWant, allowed-on-count, next-on-count}
-use Rattle.headers.proofs.Seeing.{has-next, header-new, header-fits}
+use Rattle.headers.proofs.Counts.{onWant, allowed-on-count, next-on-count}
+use Rattle.headers.proofs.Seeing.{next-goes, has-next, count-line, new-header, header-fits}
 
 -- ---- the size
 
@@ -65,13 +65,10 @@ count-stays : (st : State) (l : Line) (k : ℕ) → st .seen .count ≡ true →
 count-stays st l k c = has-next st l k Count ∙ or-r (isHeader Count l) (hasHeader (st .seen) Count) c
 
 next-counted : (lay : Layout) (st : State) (l : Line) (k v p : ℕ) → Counted v p st → allowedOf lay st l ≡ true → Counted v p (nextOf st l k)
-next-counted lay st Empty k v p c a = c
-next-counted lay st (Sized q n) k v p c a = record { is = count-stays st (Sized q n) k (c .is); count = c .count; at = c .at }
-next-counted lay st (Typed t) k v p c a = record { is = c .is; count = c .count; at = c .at }
-next-counted lay st (Rows n) k v p c a = absurd (false≢true (sym (header-new st Count _ a) ∙ c .is))
-next-counted lay st (Row m) k v p c a = record { is = c .is; count = c .count; at = c .at }
-next-counted lay st End k v p c a = record { is = c .is; count = c .count; at = c .at }
-next-counted lay st Fault k v p c a = c
+next-counted lay st l k v p c a =
+    let g = next-goes st l k in
+    let other : isHeader Count l ≡ false = false-test (isHeader Count l) (λ e. false≢true (sym (new-header lay st l Count a e) ∙ c .is)) in
+    record { is = count-stays st l k (c .is); count = g .want other ∙ c .count; at = g .place other ∙ c .at }
 
 pub after-counted : (lay : Layout) (ls : List (List ℕ)) (st : State) (k v p : ℕ) → Counted v p st → passes lay ls st k ≡ true → Counted v p (after ls st k)
 unfolding stateAfter allowedAt nextAt
@@ -98,13 +95,11 @@ pub record CountIn (ls : List (List ℕ)) : Type 0 where
   pub counts : lineOf line ≡ Rows count
 
 next-not-counted : (st : State) (l : Line) (k : ℕ) → ((v : ℕ) × (l ≡ Rows v)) ⊎ (nextOf st l k .seen .count ≡ st .seen .count)
-next-not-counted st Empty k = inr refl
-next-not-counted st (Sized p n) k = inr (has-next st (Sized p n) k Count)
-next-not-counted st (Typed t) k = inr refl
-next-not-counted st (Rows n) k = inl (n, refl)
-next-not-counted st (Row m) k = inr refl
-next-not-counted st End k = inr refl
-next-not-counted st Fault k = inr refl
+next-not-counted st l k = go (isHeader Count l) refl
+  where
+    go : (c : Bool) → isHeader Count l ≡ c → ((v : ℕ) × (l ≡ Rows v)) ⊎ (nextOf st l k .seen .count ≡ st .seen .count)
+    go true e = inl (count-line l e)
+    go false e = inr (has-next st l k Count ∙ ap (λ (t : Bool). t || st .seen .count) e)
 
 pub count-in : (ls : List (List ℕ)) (st : State) (k : ℕ) → st .seen .count ≡ false → after ls st k .seen .count ≡ true → CountIn ls
 unfolding stateAfter nextAt
@@ -122,11 +117,11 @@ count-in (l ∷ ls) st k f h =
 abbrev blank : ℕ → ℕ
 blank v = 0
 
-alike-line : (l m : List ℕ) → (l ≡ m) ⊎ (Counts l × Counts m) → onCount blank (lineOf l) ≡ onCount blank (lineOf m)
-alike-line l m (inl e) = ap (λ (x : List ℕ). onCount blank (lineOf x)) e
+alike-line : (l m : List ℕ) → (l ≡ m) ⊎ (Counts l × Counts m) → recounted blank (lineOf l) ≡ recounted blank (lineOf m)
+alike-line l m (inl e) = ap (λ (x : List ℕ). recounted blank (lineOf x)) e
 alike-line l m (inr c) = rw (c .0 .1, c .1 .1)
 
-module _ (lay : Layout) (st sm : State) (l m : Line) (s : onWant blank st ≡ onWant blank sm) (e : onCount blank l ≡ onCount blank m) where
+module _ (lay : Layout) (st sm : State) (l m : Line) (s : onWant blank st ≡ onWant blank sm) (e : recounted blank l ≡ recounted blank m) where
   alike-allowed : allowedOf lay st l ≡ allowedOf lay sm m
   alike-allowed = sym (allowed-on-count blank lay st l) ∙ rw (s, e) (allowed-on-count blank lay sm m)
 

@@ -1,26 +1,18 @@
 -- What is allowed, and what follows, does not depend on the number after `.p`: any function may change it.
 use Prim.Native.Nat.{ℕ}
 use mathlib.Core.Path.{_≡_, refl}
+use Rattle.lines.specs.Lines.{recounted}
 use Rattle.lines.specs.declared.Line.{Line}
 use Rattle.lines.specs.declared.Line.the-variants.{Empty, Sized, Typed, Rows, Row, End, Fault}
 use Rattle.headers.specs.Headers.{openOf, headerAllowed, endAllowed, rowAllowed, allowedOf, nextOf}
 use Rattle.headers.specs.declared.Layout.{Layout}
 use Rattle.headers.specs.declared.State.{State}
 
--- a line, and a state, with another number after `.p`
-abbrev pub onCount : (ℕ → ℕ) → Line → Line
-onCount f Empty = Empty
-onCount f (Sized p n) = Sized p n
-onCount f (Typed t) = Typed t
-onCount f (Rows v) = Rows (f v)
-onCount f (Row m) = Row m
-onCount f End = End
-onCount f Fault = Fault
-
+-- a state with another number after `.p`
 abbrev pub onWant : (ℕ → ℕ) → State → State
 onWant f st = record { seen = st .seen; size = st .size; want = f (st .want); place = st .place; rows = st .rows; ended = st .ended }
 
-pub allowed-on-count : (f : ℕ → ℕ) (lay : Layout) (st : State) (l : Line) → allowedOf lay (onWant f st) (onCount f l) ≡ allowedOf lay st l
+pub allowed-on-count : (f : ℕ → ℕ) (lay : Layout) (st : State) (l : Line) → allowedOf lay (onWant f st) (recounted f l) ≡ allowedOf lay st l
 unfolding openOf headerAllowed endAllowed rowAllowed
 allowed-on-count f lay st Empty = refl
 allowed-on-count f lay st (Sized p n) = refl
@@ -30,7 +22,7 @@ allowed-on-count f lay st (Row m) = refl
 allowed-on-count f lay st End = refl
 allowed-on-count f lay st Fault = refl
 
-pub next-on-count : (f : ℕ → ℕ) (st : State) (l : Line) (k : ℕ) → nextOf (onWant f st) (onCount f l) k ≡ onWant f (nextOf st l k)
+pub next-on-count : (f : ℕ → ℕ) (st : State) (l : Line) (k : ℕ) → nextOf (onWant f st) (recounted f l) k ≡ onWant f (nextOf st l k)
 next-on-count f st Empty k = refl
 next-on-count f st (Sized p n) k = refl
 next-on-count f st (Typed t) k = refl

@@ -13,8 +13,6 @@ use Rattle.table.proofs.Basics.{and-i, and-l}
 use Rattle.fields.specs.Texts.{linesOf}
 use Rattle.fields.proofs.JoinLaws.{NoFeed, NoFeeds, textOf, lines-of-text, lines-no-feeds, append-no-feeds}
 use Rattle.lines.specs.Lines.{lineOf, viewOf}
-use Rattle.lines.specs.declared.Line.{Line}
-use Rattle.lines.specs.declared.Line.the-variants.{Empty, Sized, Typed, Rows, Row, End, Fault}
 use Rattle.lines.proofs.Written.{countText, count-text, count-no-feed}
 use Rattle.headers.specs.Headers.{allowedAt, nextOf, nextAt, freshState}
 use Rattle.headers.specs.Verdicts.{finishOf, judgeLines, judgeOf}
@@ -27,32 +25,12 @@ use Rattle.headers.specs.declared.Verdict.{Verdict}
 use Rattle.headers.specs.declared.Verdict.the-variants.{Good, Bad}
 use Rattle.headers.proofs.Passing.{stateAfter, allPass, Stuck, pass-or-stuck, pass-first, pass-append, pass-others, after-append}
 use Rattle.headers.proofs.Machine.{passes, after, judge-passing, judge-stuck, after-rows, after-ended}
-use Rattle.headers.proofs.Seeing.{has-next}
+use Rattle.headers.proofs.Seeing.{next-goes, has-next, count-line}
 use Rattle.headers.proofs.After.{Counted, counted-at, count-in, alike-pass}
 use Rattle.headers.proofs.Completing.{sound-passing, leads-on}
 use Rattle.headers.proofs.Accepting.{good-or-bad, finish-i, good-text, text-passes, good-iff-text}
 
 -- ---- lines with another number after `.p`
-
--- a line that is `.p`, by its test
-count-line : (l : Line) → isHeader Count l ≡ true → (v : ℕ) × (l ≡ Rows v)
-count-line Empty e = absurd (false≢true e)
-count-line (Sized p n) e = absurd (false≢true e)
-count-line (Typed t) e = absurd (false≢true e)
-count-line (Rows v) e = (v, refl)
-count-line (Row m) e = absurd (false≢true e)
-count-line End e = absurd (false≢true e)
-count-line Fault e = absurd (false≢true e)
-
--- another line leaves the number after `.p` as it is
-want-stays : (st : State) (l : Line) (k : ℕ) → isHeader Count l ≡ false → nextOf st l k .want ≡ st .want
-want-stays st Empty k e = refl
-want-stays st (Sized p n) k e = refl
-want-stays st (Typed t) k e = refl
-want-stays st (Rows v) k e = absurd (false≢true (sym e))
-want-stays st (Row m) k e = refl
-want-stays st End k e = refl
-want-stays st Fault k e = refl
 
 recountAs : Bool → ℕ → List ℕ → List ℕ
 recountAs c r l = cond c (countText r) l
@@ -98,7 +76,7 @@ Wants r st = st .seen .count ≡ true → st .want ≡ r
 recount-want-line : (c : Bool) (r : ℕ) (l : List ℕ) (st : State) (k : ℕ) → isHeader Count (lineOf l) ≡ c → Wants r st → Wants r (nextOf st (lineOf (recountAs c r l)) k)
 unfolding recountAs
 recount-want-line true r l st k e h = rw (count-text r) (λ c. refl)
-recount-want-line false r l st k e h = λ c. want-stays st (lineOf l) k e ∙ h (sym (has-next st (lineOf l) k Count ∙ ap (λ (t : Bool). t || st .seen .count) e) ∙ c)
+recount-want-line false r l st k e h = λ c. next-goes st (lineOf l) k .want e ∙ h (sym (has-next st (lineOf l) k Count ∙ ap (λ (t : Bool). t || st .seen .count) e) ∙ c)
 
 recount-wants : (r : ℕ) (ls : List (List ℕ)) (st : State) (k : ℕ) → Wants r st → Wants r (after (recount r ls) st k)
 unfolding recount stateAfter nextAt

@@ -13,7 +13,6 @@ use Rattle.lines.specs.declared.Part.{Part}
 use Rattle.lines.specs.declared.Part.the-variants.{Ins, Outs}
 use Rattle.lines.specs.declared.Kind.{Kind}
 use Rattle.lines.specs.declared.Kind.the-variants.{Recording, Sheet}
-use Rattle.lines.specs.declared.View.{View}
 use Rattle.lines.specs.declared.Line.{Line}
 use Rattle.lines.specs.declared.Line.the-variants.{Empty, Sized, Typed, Rows, Row, End, Fault}
 use Rattle.headers.specs.Headers.{everyHeader, hasHeader, lacks, lacksNone, readyOf, sameKind, openOf, headerAllowed, endAllowed, allowedOf, withHeader, nextOf}
@@ -80,28 +79,36 @@ has-with s Count (Size Outs) = refl
 has-with s Count TypeWord = refl
 has-with s Count Count = refl
 
+-- what a line does to the state: its header stands there, its row is counted, its end mark is known; only `.p` gives a number and its place
+pub record Goes (l : Line) (st next : State) : Type 0 where
+  pub has : (h : Header) → hasHeader (next .seen) h ≡ (isHeader h l || hasHeader (st .seen) h)
+  pub rows : next .rows ≡ st .rows + one (isRow (viewOf l))
+  pub ended : next .ended ≡ (isEnd (viewOf l) || st .ended)
+  pub want : isHeader Count l ≡ false → next .want ≡ st .want
+  pub place : isHeader Count l ≡ false → next .place ≡ st .place
+
+pub next-goes : (st : State) (l : Line) (k : ℕ) → Goes l st (nextOf st l k)
+next-goes st Empty k = record { has = λ h. refl; rows = omega arith; ended = refl; want = λ e. refl; place = λ e. refl }
+next-goes st (Sized p n) k = record { has = λ h. has-with (st .seen) h (Size p); rows = omega arith; ended = refl; want = λ e. refl; place = λ e. refl }
+next-goes st (Typed t) k = record { has = λ h. has-with (st .seen) h TypeWord; rows = omega arith; ended = refl; want = λ e. refl; place = λ e. refl }
+next-goes st (Rows v) k =
+    record { has = λ h. has-with (st .seen) h Count; rows = omega arith; ended = refl; want = λ e. absurd (false≢true (sym e)); place = λ e. absurd (false≢true (sym e)) }
+next-goes st (Row m) k = record { has = λ h. refl; rows = refl; ended = refl; want = λ e. refl; place = λ e. refl }
+next-goes st End k = record { has = λ h. refl; rows = omega arith; ended = refl; want = λ e. refl; place = λ e. refl }
+next-goes st Fault k = record { has = λ h. refl; rows = omega arith; ended = refl; want = λ e. refl; place = λ e. refl }
+
 pub has-next : (st : State) (l : Line) (k : ℕ) (h : Header) → hasHeader (nextOf st l k .seen) h ≡ (isHeader h l || hasHeader (st .seen) h)
-has-next st Empty k h = refl
-has-next st (Sized p n) k h = has-with (st .seen) h (Size p)
-has-next st (Typed t) k h = has-with (st .seen) h TypeWord
-has-next st (Rows v) k h = has-with (st .seen) h Count
-has-next st (Row m) k h = refl
-has-next st End k h = refl
-has-next st Fault k h = refl
+has-next st l k h = next-goes st l k .has h
 
--- the number of rows and the end mark go by the line's view
-pub record Goes (v : View) (st next : State) : Type 0 where
-  pub rows : next .rows ≡ st .rows + one (isRow v)
-  pub ended : next .ended ≡ (isEnd v || st .ended)
-
-pub next-goes : (st : State) (l : Line) (k : ℕ) → Goes (viewOf l) st (nextOf st l k)
-next-goes st Empty k = record { rows = omega arith; ended = refl }
-next-goes st (Sized p n) k = record { rows = omega arith; ended = refl }
-next-goes st (Typed t) k = record { rows = omega arith; ended = refl }
-next-goes st (Rows n) k = record { rows = omega arith; ended = refl }
-next-goes st (Row m) k = record { rows = refl; ended = refl }
-next-goes st End k = record { rows = omega arith; ended = refl }
-next-goes st Fault k = record { rows = omega arith; ended = refl }
+-- a line that is `.p`, by its test
+pub count-line : (l : Line) → isHeader Count l ≡ true → (v : ℕ) × (l ≡ Rows v)
+count-line Empty e = absurd (false≢true e)
+count-line (Sized p n) e = absurd (false≢true e)
+count-line (Typed t) e = absurd (false≢true e)
+count-line (Rows v) e = (v, refl)
+count-line (Row m) e = absurd (false≢true e)
+count-line End e = absurd (false≢true e)
+count-line Fault e = absurd (false≢true e)
 
 pub one-le : (b : Bool) → one b ≤ 1
 one-le true = omega arith

@@ -8,14 +8,14 @@ use native.Mathlib.Omega.{arith}
 use lib.Dec.{eqb}
 use borrow.Author.Tests.{eqb-true}
 use Rattle.table.proofs.Basics.{and-l, and-r}
-use Rattle.lines.specs.Lines.{lineOf}
+use Rattle.lines.specs.Lines.{lineOf, viewOf}
 use Rattle.lines.specs.Bounds.{LineOk}
 use Rattle.lines.specs.declared.Masks.{Masks}
 use Rattle.lines.specs.declared.Line.{Line}
 use Rattle.lines.specs.declared.Line.the-variants.{Empty, Sized, Typed, Rows, Row, End, Fault}
 use Rattle.lines.proofs.BoundLaws.{line-ok}
 use Rattle.headers.specs.Headers.{hasHeader, readyOf, openOf, endAllowed, rowAllowed, allowedOf, nextOf, allowedAt, nextAt}
-use Rattle.headers.specs.Accepted.{one, times, rowsIn, Fits, HeaderLine, RowLine, All}
+use Rattle.headers.specs.Accepted.{isRow, one, times, rowsIn, Fits, HeaderLine, RowLine, All}
 use Rattle.headers.specs.declared.Layout.{Layout}
 use Rattle.headers.specs.declared.Header.{Header}
 use Rattle.headers.specs.declared.Header.the-variants.{Size, TypeWord, Count}
@@ -33,26 +33,35 @@ row-parts lay st m a =
     let r = and-r (endAllowed lay st) _ a in
     (and-l (endAllowed lay st) _ a, fits-e lay (st .size) m (sym (eqb-true (st .size) (m .width) (and-l (eqb (st .size) (m .width)) _ r))) (and-r (eqb (st .size) (m .width)) _ r))
 
--- a header is allowed only before the end mark and the first row
-not-ended : (st : State) → openOf st ≡ true → st .ended ≡ true → ⊥
-not-ended st o e = false≢true (sym (open-e st o .0) ∙ e)
+-- a line that is allowed: an empty one, a header before the first row and the end mark, a row, or the end mark
+pub data Stands (lay : Layout) (st : State) (l : Line) : Type 0 where
+  blank : l ≡ Empty → Stands lay st l
+  heads : openOf st ≡ true → Stands lay st l
+  rows : (m : Masks) → l ≡ Row m → rowAllowed lay st m ≡ true → Stands lay st l
+  ends : l ≡ End → endAllowed lay st ≡ true → Stands lay st l
+
+stands : (lay : Layout) (st : State) (l : Line) → allowedOf lay st l ≡ true → Stands lay st l
+stands lay st Empty a = blank refl
+stands lay st (Sized p n) a = heads (header-open st (Size p) _ a)
+stands lay st (Typed t) a = heads (header-open st TypeWord _ a)
+stands lay st (Rows v) a = heads (header-open st Count _ a)
+stands lay st (Row m) a = rows m refl a
+stands lay st End a = ends refl a
+stands lay st Fault a = absurd (false≢true a)
 
 -- ---- after the end mark
 
-only-empty : (lay : Layout) (st : State) (l : Line) → st .ended ≡ true → allowedOf lay st l ≡ true → l ≡ Empty
-only-empty lay st Empty e a = refl
-only-empty lay st (Sized p n) e a = absurd (not-ended st (header-open st (Size p) _ a) e)
-only-empty lay st (Typed t) e a = absurd (not-ended st (header-open st TypeWord _ a) e)
-only-empty lay st (Rows v) e a = absurd (not-ended st (header-open st Count _ a) e)
-only-empty lay st (Row m) e a = absurd (false≢true (sym (end-going lay st (row-parts lay st m a .0)) ∙ e))
-only-empty lay st End e a = absurd (false≢true (sym (end-going lay st a) ∙ e))
-only-empty lay st Fault e a = absurd (false≢true a)
+only-empty : (lay : Layout) (st : State) (l : Line) → st .ended ≡ true → Stands lay st l → l ≡ Empty
+only-empty lay st l e (blank q) = q
+only-empty lay st l e (heads o) = absurd (false≢true (sym (open-e st o .0) ∙ e))
+only-empty lay st l e (rows m q a) = absurd (false≢true (sym (end-going lay st (row-parts lay st m a .0)) ∙ e))
+only-empty lay st l e (ends q a) = absurd (false≢true (sym (end-going lay st a) ∙ e))
 
 after-end : (lay : Layout) (ls : List (List ℕ)) (st : State) (k : ℕ) → st .ended ≡ true → passes lay ls st k ≡ true → All (λ l. l ≡ Empty) ls × (after ls st k ≡ st)
 unfolding stateAfter allowedAt nextAt
 after-end lay [] st k e h = (tt, refl)
 after-end lay (l ∷ ls) st k e h =
-    let x = only-empty lay st (lineOf l) e (pass-here (allowedAt lay) nextAt l ls st k h) in
+    let x = only-empty lay st (lineOf l) e (stands lay st (lineOf l) (pass-here (allowedAt lay) nextAt l ls st k h)) in
     let s : nextOf st (lineOf l) k ≡ st = rw x refl in
     let r = after-end lay ls (nextOf st (lineOf l) k) (k + 1) (ap (λ (y : State). y .ended) s ∙ e) (pass-more (allowedAt lay) nextAt l ls st k h) in
     ((x, r .0), r .1 ∙ s)
@@ -76,46 +85,29 @@ abbrev MoreBody : Layout → List (List ℕ) → ℕ → Type 0
 MoreBody lay ls k =
     (st : State) → st .ended ≡ false → (st .rows ≡ 0 → ⊥) → passes lay ls st k ≡ true → after ls st k .ended ≡ true → Body lay st (after ls st k) ls
 
-body-line : (lay : Layout) (l : List ℕ) (ls : List (List ℕ)) (st : State) (k : ℕ) (x : Line) → lineOf l ≡ x → st .ended ≡ false → (st .rows ≡ 0 → ⊥)
-    → allowedOf lay st x ≡ true → passes lay ls (nextOf st x k) (k + 1) ≡ true → after ls (nextOf st x k) (k + 1) .ended ≡ true → MoreBody lay ls (k + 1)
-    → Body lay st (after ls (nextOf st x k) (k + 1)) (l ∷ ls)
+-- an empty line, or a row, in front
+body-cons : (lay : Layout) (l : List ℕ) (ls : List (List ℕ)) (st next last : State) → RowLine lay (st .size) (lineOf l) → next .rows ≡ st .rows + one (isRow (viewOf (lineOf l)))
+    → next .seen ≡ st .seen → next .size ≡ st .size → Body lay next last ls → Body lay st last (l ∷ ls)
 unfolding rowsIn
-body-line lay l ls st k Empty x e n a h d more =
-    let b = more st e n h d in
+body-cons lay l ls st next last p r s z b =
     record {
       middle = l ∷ b .middle;
       mark = b .mark;
       rest = b .rest;
       lines = ap (λ (y : List (List ℕ)). l ∷ y) (b .lines);
-      rows = (inl x, b .rows);
+      rows = (p, rw (← z) (b .rows));
       ends = b .ends;
       empty = b .empty;
-      number = rw x (omega (arith, b .number));
-      seen = b .seen;
-      size = b .size;
+      number = omega (arith, b .number, r);
+      seen = b .seen ∙ s;
+      size = b .size ∙ z;
     }
-body-line lay l ls st k (Sized p s) x e n a h d more = absurd (n (open-e st (header-open st (Size p) _ a) .1))
-body-line lay l ls st k (Typed t) x e n a h d more = absurd (n (open-e st (header-open st TypeWord _ a) .1))
-body-line lay l ls st k (Rows v) x e n a h d more = absurd (n (open-e st (header-open st Count _ a) .1))
-body-line lay l ls st k (Row m) x e n a h d more =
-    let b = more (nextOf st (Row m) k) e (some (st .rows)) h d in
-    let r = row-parts lay st m a in
-    record {
-      middle = l ∷ b .middle;
-      mark = b .mark;
-      rest = b .rest;
-      lines = ap (λ (y : List (List ℕ)). l ∷ y) (b .lines);
-      rows = (inr (m, x, r .1), b .rows);
-      ends = b .ends;
-      empty = b .empty;
-      number = rw x (omega (arith, b .number));
-      seen = b .seen;
-      size = b .size;
-    }
-  where
-    some : (r : ℕ) → r + 1 ≡ 0 → ⊥
-    some r z = omega arith
-body-line lay l ls st k End x e n a h d more =
+
+-- the end mark, and the lines after it
+body-end : (lay : Layout) (l : List ℕ) (ls : List (List ℕ)) (st : State) (k : ℕ) → lineOf l ≡ End → passes lay ls (nextOf st End k) (k + 1) ≡ true
+    → Body lay st (after ls (nextOf st End k) (k + 1)) (l ∷ ls)
+unfolding rowsIn
+body-end lay l ls st k x h =
     let r = after-end lay ls (nextOf st End k) (k + 1) refl h in
     record {
       middle = [];
@@ -129,13 +121,31 @@ body-line lay l ls st k End x e n a h d more =
       seen = ap (λ (y : State). y .seen) (r .1);
       size = ap (λ (y : State). y .size) (r .1);
     }
-body-line lay l ls st k Fault x e n a h d more = absurd (false≢true a)
+
+-- a row that is allowed, and the lines after it
+body-row : (lay : Layout) (l : List ℕ) (ls : List (List ℕ)) (st : State) (k : ℕ) (m : Masks) → lineOf l ≡ Row m → st .ended ≡ false → rowAllowed lay st m ≡ true
+    → passes lay ls (nextOf st (Row m) k) (k + 1) ≡ true → after ls (nextOf st (Row m) k) (k + 1) .ended ≡ true → MoreBody lay ls (k + 1)
+    → Body lay st (after ls (nextOf st (Row m) k) (k + 1)) (l ∷ ls)
+body-row lay l ls st k m x e a h d more =
+    body-cons lay l ls st (nextOf st (Row m) k) _ (inr (m, x, row-parts lay st m a .1)) (rw x refl) refl refl (more (nextOf st (Row m) k) e (some (st .rows)) h d)
+  where
+    some : (r : ℕ) → r + 1 ≡ 0 → ⊥
+    some r z = omega arith
+
+body-line : (lay : Layout) (l : List ℕ) (ls : List (List ℕ)) (st : State) (k : ℕ) (x : Line) → lineOf l ≡ x → st .ended ≡ false → (st .rows ≡ 0 → ⊥)
+    → Stands lay st x → passes lay ls (nextOf st x k) (k + 1) ≡ true → after ls (nextOf st x k) (k + 1) .ended ≡ true → MoreBody lay ls (k + 1)
+    → Body lay st (after ls (nextOf st x k) (k + 1)) (l ∷ ls)
+body-line lay l ls st k x s e n (blank q) h d more =
+    rw q (body-cons lay l ls st st _ (inl (s ∙ q)) (rw (s ∙ q) (omega arith)) refl refl (more st e n (rw q at h) (rw q at d)))
+body-line lay l ls st k x s e n (heads o) h d more = absurd (n (open-e st o .1))
+body-line lay l ls st k x s e n (rows m q a) h d more = rw q (body-row lay l ls st k m (s ∙ q) e a (rw q at h) (rw q at d) more)
+body-line lay l ls st k x s e n (ends q a) h d more = rw q (body-end lay l ls st k (s ∙ q) (rw q at h))
 
 body-of : (lay : Layout) (ls : List (List ℕ)) (k : ℕ) → MoreBody lay ls k
 unfolding stateAfter allowedAt nextAt
 body-of lay [] k st e n h d = absurd (false≢true (sym e ∙ d))
 body-of lay (l ∷ ls) k st e n h d =
-    body-line lay l ls st k (lineOf l) refl e n (pass-here (allowedAt lay) nextAt l ls st k h) (pass-more (allowedAt lay) nextAt l ls st k h) d (body-of lay ls (k + 1))
+    body-line lay l ls st k (lineOf l) refl e n (stands lay st (lineOf l) (pass-here (allowedAt lay) nextAt l ls st k h)) (pass-more (allowedAt lay) nextAt l ls st k h) d (body-of lay ls (k + 1))
 
 -- ---- from the headers on
 
@@ -181,10 +191,28 @@ split-cons lay l ls st k last x e a p s =
       ready = s .ready;
     }
 
+-- no header, and the rows at once
+split-body : (lay : Layout) (ls : List (List ℕ)) (st last : State) → st .rows ≡ 0 → readyOf lay (st .seen) ≡ true → Body lay st last ls → Split lay st last ls
+unfolding times
+split-body lay ls st last n r b =
+    record {
+      top = [];
+      middle = b .middle;
+      mark = b .mark;
+      rest = b .rest;
+      lines = b .lines;
+      headers = tt;
+      tally = λ h. rw (b .seen) (omega arith);
+      rows = rw (b .size) (b .rows);
+      ends = b .ends;
+      empty = b .empty;
+      number = omega (arith, b .number);
+      ready = rw (b .seen) r;
+    }
+
 split-line : (lay : Layout) (l : List ℕ) (ls : List (List ℕ)) (st : State) (k : ℕ) (x : Line) → lineOf l ≡ x → LineOk x → st .ended ≡ false → st .rows ≡ 0
     → allowedOf lay st x ≡ true → passes lay ls (nextOf st x k) (k + 1) ≡ true → after ls (nextOf st x k) (k + 1) .ended ≡ true
     → CountsRows (after ls (nextOf st x k) (k + 1)) → MoreSplit lay ls (k + 1) → Split lay st (after ls (nextOf st x k) (k + 1)) (l ∷ ls)
-unfolding rowsIn times
 split-line lay l ls st k Empty x o e n a h d w more = split-cons lay l ls st k _ Empty x a tt (more st e n h d w)
 split-line lay l ls st k (Sized p s) x o e n a h d w more =
     split-cons lay l ls st k _ (Sized p s) x a (sym (size-stays lay ls (nextOf st (Sized p s) k) (k + 1) (o .0) h)) (more (nextOf st (Sized p s) k) e n h d w)
@@ -194,41 +222,8 @@ split-line lay l ls st k (Rows v) x o e n a h d w more =
     let c = after-counted lay ls (nextOf st (Rows v) k) (k + 1) v k (record { is = refl; count = refl; at = refl }) h in
     split-cons lay l ls st k _ (Rows v) x a (sym (c .count) ∙ w (c .is)) (more (nextOf st (Rows v) k) e n h d w)
 split-line lay l ls st k (Row m) x o e n a h d w more =
-    let b = body-of lay ls (k + 1) (nextOf st (Row m) k) e (some (st .rows)) h d in
-    let r = row-parts lay st m a in
-    record {
-      top = [];
-      middle = l ∷ b .middle;
-      mark = b .mark;
-      rest = b .rest;
-      lines = ap (λ (y : List (List ℕ)). l ∷ y) (b .lines);
-      headers = tt;
-      tally = λ h. rw (b .seen) (omega arith);
-      rows = (inr (m, x, rw (b .size) (r .1)), rw (b .size) (b .rows));
-      ends = b .ends;
-      empty = b .empty;
-      number = rw x (omega (arith, b .number));
-      ready = rw (b .seen) (end-ready lay st (r .0));
-    }
-  where
-    some : (r : ℕ) → r + 1 ≡ 0 → ⊥
-    some r z = omega arith
-split-line lay l ls st k End x o e n a h d w more =
-    let r = after-end lay ls (nextOf st End k) (k + 1) refl h in
-    record {
-      top = [];
-      middle = [];
-      mark = l;
-      rest = ls;
-      lines = refl;
-      headers = tt;
-      tally = λ h. rw (r .1) (omega arith);
-      rows = tt;
-      ends = x;
-      empty = r .0;
-      number = sym (ap (λ (y : State). y .rows) (r .1) ∙ n);
-      ready = rw (r .1) (end-ready lay st a);
-    }
+    split-body lay (l ∷ ls) st _ n (end-ready lay st (row-parts lay st m a .0)) (body-row lay l ls st k m x e a h d (body-of lay ls (k + 1)))
+split-line lay l ls st k End x o e n a h d w more = split-body lay (l ∷ ls) st _ n (end-ready lay st a) (body-end lay l ls st k x h)
 split-line lay l ls st k Fault x o e n a h d w more = absurd (false≢true a)
 
 pub split-of : (lay : Layout) (ls : List (List ℕ)) (k : ℕ) → MoreSplit lay ls k

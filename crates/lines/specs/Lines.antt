@@ -96,15 +96,19 @@ ofFields (w ∷ fs) = classOf w fs
 unfoldable pub lineOf : List ℕ → Line
 lineOf s = ofFields (fieldsIn (body s))
 
+-- a line with another number after `.p`
+abbrev pub recounted : (ℕ → ℕ) → Line → Line
+recounted f Empty = Empty
+recounted f (Sized p n) = Sized p n
+recounted f (Typed t) = Typed t
+recounted f (Rows v) = Rows (f v)
+recounted f (Row m) = Row m
+recounted f End = End
+recounted f Fault = Fault
+
 -- a line as the code keeps it: a number of rows above 10^19 as 10^19
 abbrev pub keepLine : Line → Line
-keepLine Empty = Empty
-keepLine (Sized p n) = Sized p n
-keepLine (Typed t) = Typed t
-keepLine (Rows v) = Rows (min v most)
-keepLine (Row m) = Row m
-keepLine End = End
-keepLine Fault = Fault
+keepLine l = recounted (λ v. min v most) l
 
 -- a line to those who only care for rows and the end mark: the cells of a row, the end mark, or neither
 abbrev pub viewOf : Line → View

@@ -9,7 +9,8 @@ use lib.ListN.{length, take, replicate, length-append}
 use lib.Seq.{take-at}
 use borrow.Author.Tests.{le-ltb, lt-ltb, leb-true, ltb-false}
 use Rattle.table.specs.Surgery.{filled}
-use Rattle.answers.specs.Answers.{refuse, wordsIf}
+use Rattle.answers.specs.Answers.{refuse}
+use Rattle.answers.proofs.Laws.{words-refused}
 use Rattle.answers.specs.declared.Answer.{Answer}
 use Rattle.headers.specs.Layouts.{recording}
 use Rattle.headers.specs.Verdicts.{judgeOf}
@@ -28,10 +29,6 @@ use Rattle.program.proofs.LineLaws.{room-yes}
 use Rattle.program.proofs.LearnLaws.{Writable, learn-writable}
 
 -- a code that is not 0
-kept-words : (c : ℕ) (xs ys : List ℕ) → (c ≡ 0 → ⊥) → wordsIf c xs ys ≡ ys
-kept-words zero xs ys f = absurd (f refl)
-kept-words (suc c) xs ys f = refl
-
 run-refused : (c : ℕ) (r : Run) (p : ℕ) → (c ≡ 0 → ⊥) → runIf c r p ≡ refused c p
 run-refused zero r p f = absurd (f refl)
 run-refused (suc c) r p f = refl
@@ -105,7 +102,7 @@ module _ (n : ℕ) (ts book sheet out book′ sheet′ : List ℕ) (a : Answer) 
         → Sheets n ts book sheet out book′ sheet′ out₂ r
     written-refused f out₂ r p =
         let wc : w .answer .code ≡ code = ap (λ (x : WriteAnswer). x .answer .code) (h .answer) in
-        let same : out₁ ≡ out = h .bytes ∙ kept-words code _ _ (λ z. f (wc ∙ z)) in
+        let same : out₁ ≡ out = h .bytes ∙ words-refused code _ _ (λ z. f (wc ∙ z)) in
         as-sheets _ out₂ r (ap (ifRoom (length out)) (unwritten-text n (length sheet) (length out) run (learn-writable n (length sheet) (length book) ts) done-is code code-is (λ z. f (wc ∙ z))))
         (rw (← wc, ← same) p)
 
@@ -181,8 +178,8 @@ module _ (t list book sheet out : List ℕ) where
           long = p .behind ∙ omega (arith, ap length e);
           bytes = p .bytes ∙ ap (written out 0) (sym e);
           list-words = list-read;
-          book-words = rw code-read (sym (kept-words (a .code) _ book f));
-          sheet-words = rw code-read (sym (kept-words (a .code) _ sheet f));
+          book-words = rw code-read (sym (words-refused (a .code) _ book f));
+          sheet-words = rw code-read (sym (words-refused (a .code) _ sheet f));
         }
 
     pub run-learned : a .code ≡ 0 → (book′ sheet′ out′ : List ℕ) (r : ℕ) → Sheets (a .n) (take (a .count) list′) book sheet out book′ sheet′ out′ r

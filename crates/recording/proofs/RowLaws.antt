@@ -11,7 +11,7 @@ use lib.Dec.{eqb, lit<}
 use lib.ListN.{length, length-append}
 use borrow.Author.Tests.{eq-eqb, ne-eqb}
 use Rattle.lines.specs.declared.Masks.{Masks}
-use Rattle.table.proofs.Basics.{and-l, and-r}
+use Rattle.table.proofs.Basics.{and-l, and-r, false-test}
 use Rattle.panel.specs.Transitions.{transitionWord}
 use Rattle.panel.specs.Masks.{allOn, allOff, within, apart}
 use Rattle.panel.proofs.Masks.{allOn-within, allOff-apart, within-le, on-within, on-not, apart-on}
@@ -74,22 +74,14 @@ module _ (m : Masks) (h : RowOk m) where
 
   -- a state below the on-mask does not match
   early-out : (i : ℕ) → i < m .on → matchesOf m i ≡ false
-  early-out i l = go (matchesOf m i) refl
-    where
-      go : (t : Bool) → matchesOf m i ≡ t → matchesOf m i ≡ false
-      go true e = absurd (omega (arith, within-le (m .on) i (on-in i e)))
-      go false e = e
+  early-out i l = false-test (matchesOf m i) (λ e. omega (arith, within-le (m .on) i (on-in i e)))
 
   -- nor does one that is larger than the state with every bit but those of the off-mask
   late-out : (i : ℕ) → i < 2 ^ (m .width) → 2 ^ (m .width) - m .off ≤ i → matchesOf m i ≡ false
-  late-out i l g = go (matchesOf m i) refl
+  late-out i l g = false-test (matchesOf m i) (λ e. omega (arith, within-le i (2 ^ (m .width) - 1 - m .off) (rest (off-out i e)), h .off-small))
     where
       rest : apart (m .off) i ≡ true → within i (2 ^ (m .width) - 1 - m .off) ≡ true
       rest a = on-within (m .width) i (2 ^ (m .width) - 1 - m .off) l (λ v b o. on-not (m .width) (m .off) v (h .off-small) b (λ x. apart-on (m .off) i v a x o))
-
-      go : (t : Bool) → matchesOf m i ≡ t → matchesOf m i ≡ false
-      go true e = absurd (omega (arith, within-le i (2 ^ (m .width) - 1 - m .off) (rest (off-out i e)), h .off-small))
-      go false e = e
 
   -- so the words below the on-mask are none
   pub words-none : (i : ℕ) → i ≤ m .on → wordsBelow m i ≡ []

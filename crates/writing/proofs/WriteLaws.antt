@@ -9,7 +9,7 @@ use lib.ListN.{length, take}
 use lib.Seq.{length-take-le}
 use borrow.Author.Tests.{lt-ltb, le-ltb, ltb-true, ltb-false, leb-true, leb-false, lt-leb}
 use Rattle.table.proofs.Basics.{and-r}
-use Rattle.answers.specs.Answers.{refuse, wordsIf}
+use Rattle.answers.proofs.Laws.{words-refused, refuse-none}
 use Rattle.fields.specs.Decimals.{decimal}
 use Rattle.panel.specs.Masks.{panelSize}
 use Rattle.prime.specs.Sheets.{goodSheet}
@@ -84,15 +84,11 @@ pub record Ready (n : ℕ) (sheet : List ℕ) (count room : ℕ) : Type 0 where
 pub ready : (n : ℕ) (sheet : List ℕ) (count room : ℕ) → writeCode n sheet count room ≡ 0 → Ready n sheet count room
 unfolding writeCode
 ready n sheet count room h =
-    go (panelSize n) (ltb (length sheet) count) refl (goodSheet n (take count sheet)) (ltb room (length (sheetText n (take count sheet)))) refl h
-  where
-    go : (p c : Bool) → ltb (length sheet) count ≡ c → (g f : Bool) → ltb room (length (sheetText n (take count sheet))) ≡ f
-        → refuse (not p) 2 (refuse c 3 (refuse (not g) 5 (refuse f 12 0))) ≡ 0 → Ready n sheet count room
-    go false c hc g f hf z = absurd (omega arith)
-    go true true hc g f hf z = absurd (omega arith)
-    go true false hc false f hf z = absurd (omega arith)
-    go true false hc true true hf z = absurd (omega arith)
-    go true false hc true false hf z = record { counted = ltb-false (length sheet) count hc; fits = ltb-false room _ hf }
+    let p = refuse-none (not (panelSize n)) 1 _ h in
+    let c = refuse-none (ltb (length sheet) count) 2 _ (p .1) in
+    let g = refuse-none (not (goodSheet n (take count sheet))) 4 _ (c .1) in
+    let f = refuse-none (ltb room (length (sheetText n (take count sheet)))) 11 0 (g .1) in
+    record { counted = ltb-false (length sheet) count (c .0); fits = ltb-false room _ (f .0) }
 
 -- the text of a sheet is that of its table
 pub as-table : (t : Table) → t ≡ sheetTable → (n : ℕ) (ws : List ℕ) → tableText t sheetWord n ws ≡ sheetText n ws
@@ -105,16 +101,12 @@ length-refused : (code len : ℕ) → (code ≡ 0 → ⊥) → lengthIf code len
 length-refused zero len z = absurd (z refl)
 length-refused (suc code) len z = refl
 
-bytes-refused : (code : ℕ) (xs ys : List ℕ) → (code ≡ 0 → ⊥) → wordsIf code xs ys ≡ ys
-bytes-refused zero xs ys z = absurd (z refl)
-bytes-refused (suc code) xs ys z = refl
-
 module _ (n : ℕ) (sheet : List ℕ) (count : ℕ) (before : List ℕ) (code : ℕ) (h : code ≡ writeCode n sheet count (length before)) (r : WriteAnswer) where
   pub write-refused : (code ≡ 0 → ⊥) → r ≡ withLength code 0 → Writes n sheet count before before r
   write-refused z a =
       record {
         answer = rw (← h) (a ∙ ap (λ (l : ℕ). withLength code l) (sym (length-refused code _ z)));
-        bytes = rw (← h) (sym (bytes-refused code _ before z));
+        bytes = rw (← h) (sym (words-refused code _ before z));
       }
 
   pub write-done : (t : Table) → t ≡ sheetTable → (after : List ℕ) (e : ℕ) → code ≡ 0 → Put before 0 (tableText t sheetWord n (take count sheet)) after e → r ≡ withLength 0 e → Writes n sheet count before after r

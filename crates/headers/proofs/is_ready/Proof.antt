@@ -20,18 +20,29 @@ returns-2 c =
 returns-3 : tie.Need-returns-3
 unfolding readyOf lacksNone
 returns-3 c =
-    let ins = c .before .before .before .before .before .lacks-header in
-    let outs = c .before .before .before .lacks-header2 in
-    let word = c .before .lacks-header3 in
-    rw (sym (ins .ensures) ∙ c .before .before .before .before .if1 .left, sym (outs .ensures) ∙ c .before .before .if2 .left, sym (word .ensures) ∙ c .if3 .taken) refl
+    let at-lacks-header3 = c .before in
+    let at-if2 = at-lacks-header3 .before in
+    let at-lacks-header2 = at-if2 .before in
+    let at-if1 = at-lacks-header2 .before in
+    let at-lacks-header = at-if1 .before in
+    let ins = at-lacks-header .lacks-header in
+    let outs = at-lacks-header2 .lacks-header2 in
+    let word = at-lacks-header3 .lacks-header3 in
+    rw (sym (ins .ensures) ∙ at-if1 .if1 .left, sym (outs .ensures) ∙ at-if2 .if2 .left, sym (word .ensures) ∙ c .if3 .taken) refl
 
 returns-4 : tie.Need-returns-4
 unfolding readyOf lacksNone
 returns-4 c =
-    let ins = c .before .before .before .before .before .before .lacks-header in
-    let outs = c .before .before .before .before .lacks-header2 in
-    let word = c .before .before .lacks-header3 in
-    rw (sym (ins .ensures) ∙ c .before .before .before .before .before .if1 .left, sym (outs .ensures) ∙ c .before .before .before .if2 .left, sym (word .ensures) ∙ c .before .if3 .left)
+    let at-if3 = c .before in
+    let at-lacks-header3 = at-if3 .before in
+    let at-if2 = at-lacks-header3 .before in
+    let at-lacks-header2 = at-if2 .before in
+    let at-if1 = at-lacks-header2 .before in
+    let at-lacks-header = at-if1 .before in
+    let ins = at-lacks-header .lacks-header in
+    let outs = at-lacks-header2 .lacks-header2 in
+    let word = at-lacks-header3 .lacks-header3 in
+    rw (sym (ins .ensures) ∙ at-if1 .if1 .left, sym (outs .ensures) ∙ at-if2 .if2 .left, sym (word .ensures) ∙ at-if3 .if3 .left)
     (last-lacked _ _ (c .lacks-header4 .ensures))
 
 pub is-ready-spec : {M : Type 1} → statement M

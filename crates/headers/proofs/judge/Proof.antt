@@ -26,34 +26,49 @@ loop-holds c = (omega arith, omega arith, omega arith, turns-start _ (now (c .be
 
 returns : tie.Need-returns Inv-loop μ-loop
 returns c =
-    let start = c .before .before .before .before .before .before .before .before in
-    let loop = c .before .before .before .before .before .before .loop in
-    turn-bad (start .args .lay) (now (start .args .text)) (loop .at) (c .before .before .before .before .line-end .result) (omega arith) (c .before .before .before .before .line-end .ensures .0) (loop .st) (loop .k) _ (loop .inv .3) (c .before .before .scan-line .result) (c .before .before .scan-line .ensures) (c .before .allowed .result) (c .before .allowed .ensures) (not-true (c .before .allowed .result) (c .if1 .taken))
+    let at-allowed = c .before in
+    let at-scan-line = at-allowed .before in
+    let at-line-end = at-scan-line .before .before in
+    let at-loop = at-line-end .before .before in
+    let start = at-loop .before .before in
+    let loop = at-loop .loop in
+    turn-bad (start .args .lay) (now (start .args .text)) (loop .at) (at-line-end .line-end .result) (omega arith) (at-line-end .line-end .ensures .0) (loop .st) (loop .k) _ (loop .inv .3) (at-scan-line .scan-line .result) (at-scan-line .scan-line .ensures) (at-allowed .allowed .result) (at-allowed .allowed .ensures) (not-true (at-allowed .allowed .result) (c .if1 .taken))
 
 loop-less : tie.Need-loop-less Inv-loop μ-loop
 loop-less c =
-    let start = c .before .before .before .before .before .before .before .before .before .before in
-    let the-line-end = c .before .before .before .before .before .before .line-end in
-    let p = past-on (c .before .before .before .before .before .before .before .before .loop .at) (the-line-end .result) (length (now (start .args .text))) (omega arith) (omega arith) in
+    let at-line-end = c .before .before .before .before .before .before in
+    let at-loop = at-line-end .before .before in
+    let start = at-loop .before .before in
+    let the-line-end = at-line-end .line-end in
+    let p = past-on (at-loop .loop .at) (the-line-end .result) (length (now (start .args .text))) (omega arith) (omega arith) in
     let q : c .past .result ≡ pastOf (the-line-end .result) (length (now (start .args .text))) = c .past .ensures in
     omega arith
 
 loop-again : tie.Need-loop-again Inv-loop μ-loop
 loop-again c =
-    let start = c .before .before .before .before .before .before .before .before .before .before in
-    let the-scan-line = c .before .before .before .before .scan-line in
-    let the-allowed = c .before .before .before .allowed in
+    let at-next = c .before in
+    let at-if1 = at-next .before in
+    let at-allowed = at-if1 .before in
+    let at-scan-line = at-allowed .before in
+    let at-line-end = at-scan-line .before .before in
+    let at-loop = at-line-end .before .before in
+    let start = at-loop .before .before in
+    let the-scan-line = at-scan-line .scan-line in
+    let the-allowed = at-allowed .allowed in
     let t = now (start .args .text) in
-    let l = c .before .before .before .before .before .before .before .before .loop in
-    let e = c .before .before .before .before .before .before .line-end in
+    let l = at-loop .loop in
+    let e = at-line-end .line-end in
     let q : c .past .result ≡ pastOf (e .result) (length t) = c .past .ensures in
     let r = rows-next-le (l .st) (the-scan-line .result) (l .k) in
     let i = past-in (e .result) (length t) (e .ensures .1) in
     let p = past-on (l .at) (e .result) (length t) (omega arith) (omega arith) in
-    (rw q i, rw (c .before .next .ensures) (omega arith), rw q (omega arith), turn-go (start .args .lay) t (l .at) (e .result) (omega arith) (e .ensures .0) (l .st) (l .k) _ (l .inv .3) (the-scan-line .result) (the-scan-line .ensures) (the-allowed .result) (the-allowed .ensures) (not-false (the-allowed .result) (c .before .before .if1 .left)) (c .before .next .result) (c .past .result) (c .before .next .ensures) (c .past .ensures))
+    (rw q i, rw (at-next .next .ensures) (omega arith), rw q (omega arith), turn-go (start .args .lay) t (l .at) (e .result) (omega arith) (e .ensures .0) (l .st) (l .k) _ (l .inv .3) (the-scan-line .result) (the-scan-line .ensures) (the-allowed .result) (the-allowed .ensures) (not-false (the-allowed .result) (at-if1 .if1 .left)) (at-next .next .result) (c .past .result) (at-next .next .ensures) (c .past .ensures))
 
 returns-2 : tie.Need-returns-2 Inv-loop μ-loop
-returns-2 c = c .finish .ensures ∙ turns-end (c .before .before .before .before .args .lay) (now (c .before .before .before .before .args .text)) (c .before .before .loop .at) (omega arith) (c .before .before .loop .st) (c .before .before .loop .k) _ (c .before .before .loop .inv .3)
+returns-2 c =
+    let at-loop = c .before .before in
+    let start = at-loop .before .before in
+    c .finish .ensures ∙ turns-end (start .args .lay) (now (start .args .text)) (at-loop .loop .at) (omega arith) (at-loop .loop .st) (at-loop .loop .k) _ (at-loop .loop .inv .3)
 
 pub judge-spec : {M : Type 1} → statement M
 judge-spec =

@@ -22,18 +22,29 @@ returns-2 c =
 returns-3 : tie.Need-returns-3
 unfolding rowFits
 returns-3 c =
-    let inputs = c .before .before .before .before .before .free-of in
-    let outputs = c .before .before .before .free-of2 in
-    let lay = c .before .before .before .before .before .before .args .lay in
-    rw (sym (inputs .ensures) ∙ not-false (inputs .result) (c .before .before .before .before .if1 .left), sym (outputs .ensures) ∙ not-false (outputs .result) (c .before .before .if2 .left), not-true (lay .single) (c .if3 .taken)) refl
+    let at-if2 = c .before .before in
+    let at-free-of2 = at-if2 .before in
+    let at-if1 = at-free-of2 .before in
+    let at-free-of = at-if1 .before in
+    let start = at-free-of .before in
+    let inputs = at-free-of .free-of in
+    let outputs = at-free-of2 .free-of2 in
+    let lay = start .args .lay in
+    rw (sym (inputs .ensures) ∙ not-false (inputs .result) (at-if1 .if1 .left), sym (outputs .ensures) ∙ not-false (outputs .result) (at-if2 .if2 .left), not-true (lay .single) (c .if3 .taken)) refl
 
 returns-4 : tie.Need-returns-4
 unfolding rowFits
 returns-4 c =
-    let inputs = c .before .before .before .before .before .before .free-of in
-    let outputs = c .before .before .before .before .free-of2 in
-    let lay = c .before .before .before .before .before .before .before .args .lay in
-    rw (sym (inputs .ensures) ∙ not-false (inputs .result) (c .before .before .before .before .before .if1 .left), sym (outputs .ensures) ∙ not-false (outputs .result) (c .before .before .before .if2 .left), not-false (lay .single) (c .before .if3 .left))
+    let at-if3 = c .before in
+    let at-if2 = at-if3 .before .before in
+    let at-free-of2 = at-if2 .before in
+    let at-if1 = at-free-of2 .before in
+    let at-free-of = at-if1 .before in
+    let start = at-free-of .before in
+    let inputs = at-free-of .free-of in
+    let outputs = at-free-of2 .free-of2 in
+    let lay = start .args .lay in
+    rw (sym (inputs .ensures) ∙ not-false (inputs .result) (at-if1 .if1 .left), sym (outputs .ensures) ∙ not-false (outputs .result) (at-if2 .if2 .left), not-false (lay .single) (at-if3 .if3 .left))
     (ap (λ (n : ℕ). ltb n 10) (c .only-on .ensures))
 
 pub row-fits-spec : {M : Type 1} → statement M

@@ -14,13 +14,28 @@ put-bytes-requires : tie.Need-put-bytes-requires
 put-bytes-requires c κs = omega (arith, c .before .before .before .line-length .ensures, line-length-is (c .before .before .before .before .before .args .code) (c .before .before .before .before .before .args .place))
 
 put-number-requires : tie.Need-put-number-requires
-put-number-requires c κs = omega (arith, c .before .before .before .before .before .before .before .line-length .ensures, line-length-is (c .before .before .before .before .before .before .before .before .before .args .code) (c .before .before .before .before .before .before .before .before .before .args .place), c .before .before .before .put-bytes .ensures .behind)
+put-number-requires c κs =
+    let at-put-bytes = c .before .before .before in
+    let at-line-length = at-put-bytes .before .before .before .before in
+    let start = at-line-length .before .before in
+    omega (arith, at-line-length .line-length .ensures, line-length-is (start .args .code) (start .args .place), at-put-bytes .put-bytes .ensures .behind)
 
 put-header-requires : tie.Need-put-header-requires
-put-header-requires c κs = omega (arith, c .before .before .before .before .before .before .before .before .before .before .before .before .line-length .ensures, line-length-is (c .before .before .before .before .before .before .before .before .before .before .before .before .before .before .args .code) (c .before .before .before .before .before .before .before .before .before .before .before .before .before .before .args .place), c .before .before .before .before .before .before .before .before .put-bytes .ensures .behind, c .before .before .before .before .put-number .ensures .behind, header-length (32 ∷ 97 ∷ 116 ∷ 32 ∷ []) (c .before .before .before .before .before .before .before .before .before .before .before .before .before .before .args .place))
+put-header-requires c κs =
+    let at-put-number = c .before .before .before .before in
+    let at-put-bytes = at-put-number .before .before .before .before in
+    let at-line-length = at-put-bytes .before .before .before .before in
+    let start = at-line-length .before .before in
+    omega (arith, at-line-length .line-length .ensures, line-length-is (start .args .code) (start .args .place), at-put-bytes .put-bytes .ensures .behind, at-put-number .put-number .ensures .behind, header-length (32 ∷ 97 ∷ 116 ∷ 32 ∷ []) (start .args .place))
 
 returns-2 : tie.Need-returns-2
-returns-2 c = put-line _ _ _ _ _ _ _ _ _ _ (c .before .before .before .before .before .before .before .before .before .before .before .before .before .before .before .line-length .ensures) (c .before .before .before .before .before .before .before .before .before .before .before .before .before .before .if1 .left) (c .before .before .before .before .before .before .before .before .before .before .before .put-bytes .ensures) (c .before .before .before .before .before .before .before .put-number .ensures) (c .before .before .put-header .ensures)
+returns-2 c =
+    let at-put-header = c .before .before in
+    let at-put-number = at-put-header .before .before .before .before .before in
+    let at-put-bytes = at-put-number .before .before .before .before in
+    let at-if1 = at-put-bytes .before .before .before in
+    let at-line-length = at-if1 .before in
+    put-line _ _ _ _ _ _ _ _ _ _ (at-line-length .line-length .ensures) (at-if1 .if1 .left) (at-put-bytes .put-bytes .ensures) (at-put-number .put-number .ensures) (at-put-header .put-header .ensures)
 
 pub put-refusal-spec : {M : Type 1} → statement M
 put-refusal-spec =

@@ -11,7 +11,12 @@ returns : tie.Need-returns
 returns c = run-too-long _ _ _ _ _ (c .before .before .before .before .if1 .taken) _ _ (c .before .before .put-refusal .ensures)
 
 returns-2 : tie.Need-returns-2
-returns-2 c = run-unread _ _ _ _ _ (c .before .before .before .before .before .before .before .before .before .before .if1 .left) _ _ (c .before .before .before .before .before .before .before .before .read .ensures) (c .before .before .before .before .if2 .taken) _ _ (c .before .before .put-refusal2 .ensures)
+returns-2 c =
+    let at-put-refusal2 = c .before .before in
+    let at-if2 = at-put-refusal2 .before .before in
+    let at-read = at-if2 .before .before .before .before in
+    let at-if1 = at-read .before .before in
+    run-unread _ _ _ _ _ (at-if1 .if1 .left) _ _ (at-read .read .ensures) (at-if2 .if2 .taken) _ _ (at-put-refusal2 .put-refusal2 .ensures)
 
 slice-reshare-prefix-put-learned : tie.Need-slice-reshare-prefix-put-learned
 slice-reshare-prefix-put-learned c = omega (arith, read-count _ _ _ _ (c .before .before .before .before .read .ensures))
@@ -20,7 +25,12 @@ slice-aggregate-put-learned : tie.Need-slice-aggregate-put-learned
 slice-aggregate-put-learned c = sym (length-take-le _ _ (omega (arith, read-count _ _ _ _ (c .before .before .before .before .before .read .ensures))))
 
 returns-3 : tie.Need-returns-3
-returns-3 c = run-learned _ _ _ _ _ (c .before .before .before .before .before .before .before .before .before .before .before .before .before .before .before .before .before .if1 .left) _ _ (c .before .before .before .before .before .before .before .before .before .before .before .before .before .before .before .read .ensures) (c .before .before .before .before .before .before .before .before .before .before .before .if2 .left) _ _ _ _ (c .before .before .before .before .before .before .put-learned .ensures)
+returns-3 c =
+    let at-put-learned = c .before .before .before .before .before .before in
+    let at-if2 = at-put-learned .before .before .before .before .before in
+    let at-read = at-if2 .before .before .before .before in
+    let at-if1 = at-read .before .before in
+    run-learned _ _ _ _ _ (at-if1 .if1 .left) _ _ (at-read .read .ensures) (at-if2 .if2 .left) _ _ _ _ (at-put-learned .put-learned .ensures)
 
 pub run-spec : {M : Type 1} → statement M
 run-spec =

@@ -32,11 +32,17 @@ loop-holds c = let p = c .before .before .pre in
     (omega (arith, p .1 .on-small), refl, rw e (omega arith), p .0, rw e (sym (append-nil _)))
 
 returns : tie.Need-returns Inv-loop μ-loop
-returns c = let l = c .before .before .before .before .loop in
-    let a = c .before .before .before .before .before .before .before .args in
-    let n = c .before .before .before .before .before .power in
+returns c =
+    let at-if1 = c .before in
+    let at-matches = at-if1 .before in
+    let at-loop = at-matches .before .before in
+    let at-power = at-loop .before in
+    let start = at-power .before .before in
+    let l = at-loop .loop in
+    let a = start .args in
+    let n = at-power .power in
     let m = a .m in
-    let e : matchesOf m (l .i) ≡ true = sym (c .before .before .matches .ensures) ∙ c .before .if1 .taken in
+    let e : matchesOf m (l .i) ≡ true = sym (at-matches .matches .ensures) ∙ at-if1 .if1 .taken in
     let k : length (wordsBelow m (l .i + 1)) ≡ length (wordsBelow m (l .i)) + 1 = ap length (words-in m (l .i) e) ∙ length-append (wordsBelow m (l .i)) _ in
     let g = words-mono m (l .i + 1) (2 ^ (m .width)) (omega arith) in
     let o : length (now (a .list)) < a .from + length (wordsBelow m (2 ^ (m .width))) = omega arith in
@@ -49,10 +55,15 @@ add-i : tie.Need-add-i Inv-loop μ-loop
 add-i c = omega arith
 
 loop-again : tie.Need-loop-again Inv-loop μ-loop
-loop-again c = let l = c .before .before .before .before .before .loop in
-    let a = c .before .before .before .before .before .before .before .before .args in
+loop-again c =
+    let at-if1 = c .before .before in
+    let at-matches = at-if1 .before in
+    let at-loop = at-matches .before .before in
+    let start = at-loop .before .before .before in
+    let l = at-loop .loop in
+    let a = start .args in
     let m = a .m in
-    let e : matchesOf m (l .i) ≡ true = sym (c .before .before .before .matches .ensures) ∙ c .before .before .if1 .taken in
+    let e : matchesOf m (l .i) ≡ true = sym (at-matches .matches .ensures) ∙ at-if1 .if1 .taken in
     let s = words-in m (l .i) e in
     let k : length (wordsBelow m (l .i + 1)) ≡ length (wordsBelow m (l .i)) + 1 = ap length s ∙ length-append (wordsBelow m (l .i)) _ in
     (omega arith, simp length-set (l .inv .1), omega arith, simp length-set (omega arith), put-word (l .list) (now (a .list)) (wordsBelow m (l .i)) (a .from) (l .at) _ (omega arith) (l .inv .4) ∙ ap (λ (w : ℕ). take (a .from) (now (a .list)) ++ (wordsBelow m (l .i) ++ (w ∷ []))) (c .transition-word .ensures) ∙ ap (λ (z : List ℕ). take (a .from) (now (a .list)) ++ z) (sym s))

@@ -30,25 +30,35 @@ fill-line-requires : tie.Need-fill-line-requires Inv-loop μ-loop
 fill-line-requires c κs = (c .before .before .before .before .before .loop .inv .1, scanned-ok _ _ (c .before .scan-line .ensures))
 
 loop-less : tie.Need-loop-less Inv-loop μ-loop
-loop-less c = let l = c .before .before .before .before .before .before .before .before .before .before .before .before .loop in
-    let t = now (c .before .before .before .before .before .before .before .before .before .before .before .before .before .before .before .args .text) in
-    let e = c .before .before .before .before .before .before .before .before .before .before .line-end in
+loop-less c =
+    let at-line-end = c .before .before .before .before .before .before .before .before .before .before in
+    let at-loop = at-line-end .before .before in
+    let start = at-loop .before .before .before in
+    let l = at-loop .loop in
+    let t = now (start .args .text) in
+    let e = at-line-end .line-end in
     let p = past-on (l .at) (e .result) (length t) (omega arith) (omega arith) in
     let q : c .past .result ≡ pastOf (e .result) (length t) = c .past .ensures in
     omega arith
 
 loop-again : tie.Need-loop-again Inv-loop μ-loop
 loop-again c =
-    let the-scan-line = c .before .before .before .before .before .before .before .before .scan-line in
-    let l = c .before .before .before .before .before .before .before .before .before .before .before .before .loop in
-    let t = now (c .before .before .before .before .before .before .before .before .before .before .before .before .before .before .before .args .text) in
-    let e = c .before .before .before .before .before .before .before .before .before .before .line-end in
-    let f = c .before .before .before .before .before .before .fill-line in
+    let at-f = c .before .before in
+    let at-fill-line = at-f .before .before .before .before in
+    let at-scan-line = at-fill-line .before .before in
+    let at-line-end = at-scan-line .before .before in
+    let at-loop = at-line-end .before .before in
+    let start = at-loop .before .before .before in
+    let the-scan-line = at-scan-line .scan-line in
+    let l = at-loop .loop in
+    let t = now (start .args .text) in
+    let e = at-line-end .line-end in
+    let f = at-fill-line .fill-line in
     let ln = the-scan-line .result in
     let w = words-at t (l .at) (e .result) (omega arith) (e .ensures .0) ln (the-scan-line .ensures) in
     let q : c .past .result ≡ pastOf (e .result) (length t) = c .past .ensures in
-    let k = c .before .before .f .given .0 .0 in
-    let fr : To k ≡ filledOf (l .count) (length (lineWords ln)) (length (l .list)) = sym (c .before .before .f .given .1) ∙ f .ensures .0 in
+    let k = at-f .f .given .0 .0 in
+    let fr : To k ≡ filledOf (l .count) (length (lineWords ln)) (length (l .list)) = sym (at-f .f .given .1) ∙ f .ensures .0 in
     let g = filled-to-at (l .count) (length (lineWords ln)) (length (l .list)) k fr in
     let i = past-in (e .result) (length t) (e .ensures .1) in
     (rw q i, omega arith, omega arith, rw q (turn-go (l .list) (lineWords ln) (textWords t) _ _ (l .count) (l .inv .3) w (f .last .0) k (g .0) (f .ensures .1 (g .1))))
@@ -58,12 +68,16 @@ same-length c = let l = c .before .before .before .before .before .before .befor
 
 returns : tie.Need-returns Inv-loop μ-loop
 returns c =
-    let start = c .before .before .before .before .before .before .before .before .before .before .before .before .before in
-    let the-scan-line = c .before .before .before .before .before .before .scan-line in
-    let l = c .before .before .before .before .before .before .before .before .before .before .loop in
+    let at-fill-line = c .before .before .before .before in
+    let at-scan-line = at-fill-line .before .before in
+    let at-line-end = at-scan-line .before .before in
+    let at-loop = at-line-end .before .before in
+    let start = at-loop .before .before .before in
+    let the-scan-line = at-scan-line .scan-line in
+    let l = at-loop .loop in
     let t = now (start .args .text) in
-    let e = c .before .before .before .before .before .before .before .before .line-end in
-    let f = c .before .before .before .before .fill-line in
+    let e = at-line-end .line-end in
+    let f = at-fill-line .fill-line in
     let ln = the-scan-line .result in
     let w = words-at t (l .at) (e .result) (omega arith) (e .ensures .0) ln (the-scan-line .ensures) in
     let fr : Full ≡ filledOf (l .count) (length (lineWords ln)) (length (l .list)) = sym (c .enum-told .given .1) ∙ f .ensures .0 in

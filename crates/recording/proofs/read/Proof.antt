@@ -19,48 +19,63 @@ use Rattle.recording.proofs.read.Tie as tie
 
 clear-from-requires : tie.Need-clear-from-requires
 clear-from-requires c κs =
-    let start = c .before .before .before .before .before .before .before .before .before .before .before .before .before .before .before in
+    let at-f = c .before .before in
+    let at-fill = at-f .before .before .before .before in
+    let start = at-fill .before .before .before .before .before .before .before .before .before in
     let t = now (start .args .text) in
-    let k = c .before .before .f .given .0 .0 in
-    let fr : To k ≡ filledOf 0 (length (textWords t)) (length (now (start .args .list))) = sym (c .before .before .f .given .1) ∙ c .before .before .before .before .before .before .fill .ensures .0 in
+    let k = at-f .f .given .0 .0 in
+    let fr : To k ≡ filledOf 0 (length (textWords t)) (length (now (start .args .list))) = sym (at-f .f .given .1) ∙ at-fill .fill .ensures .0 in
     let g = filled-to-at 0 (length (textWords t)) (length (now (start .args .list))) k fr in
     omega arith
 
 returns : tie.Need-returns
 returns c =
-    let the-v = c .before .before .before .before .before .before .v in
-    let judged = c .before .before .before .before .before .before .before .before in
-    let t = now (c .before .before .before .before .before .before .before .before .before .before .before .before .args .text) in
+    let at-clear = c .before .before .before in
+    let at-v = at-clear .before .before .before in
+    let judged = at-v .before .before in
+    let start = judged .before .before .before .before in
+    let the-v = at-v .v in
+    let t = now (start .args .text) in
     let j : Bad (the-v .given .0 .0) ≡ judgeOf recording t = sym (the-v .given .1) ∙ judged .judge .ensures ∙ ap (λ (lay : Layout). judgeOf lay t) (judged .before .recording-layout .ensures) in
-    read-bad _ _ _ _ _ j (c .refused .ensures) (c .before .before .before .clear .ensures)
+    read-bad _ _ _ _ _ j (c .refused .ensures) (at-clear .clear .ensures)
 
 returns-2 : tie.Need-returns-2
 returns-2 c =
-    let the-v2 = c .before .before .before .before .before .before .before .before .before .before .before .before .v2 in
-    let the-fill = c .before .before .before .before .before .before .before .before .before .fill in
-    let the-f = c .before .before .before .before .before .f in
-    let a = c .before .before .before .before .before .before .before .before .before .before .before .before .before .before .before .before .before .before .args in
+    let at-clear-from = c .before .before in
+    let at-f = at-clear-from .before .before .before in
+    let at-fill = at-f .before .before .before .before in
+    let at-v2 = at-fill .before .before .before in
+    let judged = at-v2 .before .before in
+    let start = judged .before .before .before .before in
+    let the-v2 = at-v2 .v2 in
+    let the-fill = at-fill .fill in
+    let the-f = at-f .f in
+    let a = start .args in
     let t = now (a .text) in
     let k = the-f .given .0 .0 in
     let fr : To k ≡ filledOf 0 (length (textWords t)) (length (now (a .list))) = sym (the-f .given .1) ∙ the-fill .ensures .0 in
     let g = filled-to-at 0 (length (textWords t)) (length (now (a .list))) k fr in
     let q : k ≡ length (textWords t) = omega arith in
-    let judged = c .before .before .before .before .before .before .before .before .before .before .before .before .before .before in
     let j : Good (the-v2 .given .0 .0) ≡ judgeOf recording t = sym (the-v2 .given .1) ∙ judged .judge .ensures ∙ ap (λ (lay : Layout). judgeOf lay t) (judged .before .recording-layout .ensures) in
-    read-done t (now (a .list)) _ _ _ k (the-fill .last .1 .0) j q (omega arith) (omega arith) (rw q (the-fill .ensures .1 (omega arith))) refl (c .before .before .clear-from .ensures)
+    read-done t (now (a .list)) _ _ _ k (the-fill .last .1 .0) j q (omega arith) (omega arith) (rw q (the-fill .ensures .1 (omega arith))) refl (at-clear-from .clear-from .ensures)
 
 returns-3 : tie.Need-returns-3
 returns-3 c =
-    let the-v2 = c .before .before .before .before .before .before .before .before .before .before .before .before .v2 in
-    let the-fill = c .before .before .before .before .before .before .before .before .before .fill in
-    let a = c .before .before .before .before .before .before .before .before .before .before .before .before .before .before .before .before .before .before .args in
+    let at-clear2 = c .before .before .before in
+    let at-enum-told = at-clear2 .before .before in
+    let at-fill = at-enum-told .before .before .before .before in
+    let at-v2 = at-fill .before .before .before in
+    let judged = at-v2 .before .before in
+    let start = judged .before .before .before .before in
+    let the-v2 = at-v2 .v2 in
+    let the-fill = at-fill .fill in
+    let a = start .args in
     let t = now (a .text) in
-    let fr : Full ≡ filledOf 0 (length (textWords t)) (length (now (a .list))) = sym (c .before .before .before .before .before .enum-told .given .1) ∙ the-fill .ensures .0 in
+    let fr : Full ≡ filledOf 0 (length (textWords t)) (length (now (a .list))) = sym (at-enum-told .enum-told .given .1) ∙ the-fill .ensures .0 in
     let g = filled-full-at 0 (length (textWords t)) (length (now (a .list))) fr in
-    let judged = c .before .before .before .before .before .before .before .before .before .before .before .before .before .before in
     let j : Good (the-v2 .given .0 .0) ≡ judgeOf recording t = sym (the-v2 .given .1) ∙ judged .judge .ensures ∙ ap (λ (lay : Layout). judgeOf lay t) (judged .before .recording-layout .ensures) in
     let n : length (the-fill .last .1 .0) ≡ length (now (a .list)) = omega arith in
-    read-full t (now (a .list)) _ _ _ j (omega arith) (c .refused2 .ensures) (c .before .before .before .clear2 .ensures ∙ ap (λ (k : ℕ). replicate k 0) n)
+    read-full t (now (a .list)) _ _ _ j (omega arith) (c .refused2 .ensures) (at-clear2 .clear2 .ensures ∙ ap (λ (k : ℕ). replicate k 0) n)
 
 pub read-spec : {M : Type 1} → statement M
 read-spec =

@@ -37,11 +37,26 @@ pub +put-number-spec : {M : Type 1} → statement M
     (put-number-at t)
     put-number.Post
     (λ c κs. c .before .if1 .taken)
-    (λ c κs. let p = c .before .before .before .before .pre .1 in omega (arith, decimal-length (c .before .before .before .before .args .v)))
+    (λ c κs. let start = c .before .before .before .before in omega (arith, start .pre .1, decimal-length (start .args .v)))
     (λ c. search needs)
-    (λ c. put-digit _ _ (c .before .before .before .before .before .before .before .args .v) _ _ _ (c .before .before .before .before .before .if1 .taken) (c .before .before .before .digit-byte .ensures) (c .before .before .put-byte .ensures))
-    (λ c κs. (omega arith, omega (arith, c .before .before .before .pre .1, decimal-longer (c .before .before .before .args .v) (c .before .if1 .left))))
+    (λ c.
+    let written = c .before .before in
+    let digit = written .before in
+    let small = digit .before .before in
+    let start = small .before .before in
+    put-digit _ _ (start .args .v) _ _ _ (small .if1 .taken) (digit .digit-byte .ensures) (written .put-byte .ensures))
+    (λ c κs. let start = c .before .before .before in (omega arith, omega (arith, start .pre .1, decimal-longer (start .args .v) (c .before .if1 .left))))
     (λ c κs. omega arith)
-    (λ c κs. omega (arith, c .before .before .before .before .before .before .before .before .pre .1, c .before .before .before .before .put-number .ensures .behind, decimal-longer (c .before .before .before .before .before .before .before .before .args .v) (c .before .before .before .before .before .before .if1 .left)))
+    (λ c κs.
+    let tenth = c .before .before .before .before in
+    let large = tenth .before .before in
+    let start = large .before .before in
+    omega (arith, start .pre .1, tenth .put-number .ensures .behind, decimal-longer (start .args .v) (large .if1 .left)))
     (λ c. search needs)
-    (λ c. put-digits _ _ (c .before .before .before .before .before .before .before .before .before .before .before .args .v) _ _ _ _ _ (c .before .before .before .before .before .before .before .before .before .if1 .left) (c .before .before .before .before .before .before .before .before .before .before .before .pre .1) (c .before .before .before .before .before .before .before .put-number .ensures) (c .before .before .before .digit-byte2 .ensures) (c .before .before .put-byte2 .ensures))
+    (λ c.
+    let written = c .before .before in
+    let digit = written .before in
+    let tenth = digit .before .before .before .before in
+    let large = tenth .before .before in
+    let start = large .before .before in
+    put-digits _ _ (start .args .v) _ _ _ _ _ (large .if1 .left) (start .pre .1) (tenth .put-number .ensures) (digit .digit-byte2 .ensures) (written .put-byte2 .ensures))

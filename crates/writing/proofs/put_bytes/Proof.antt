@@ -25,9 +25,11 @@ put-byte-requires c κs = let p = c .before .before .before .loop .inv .2 .behin
 
 loop-again : tie.Need-loop-again Inv-loop μ-loop
 loop-again c =
-    let start = c .before .before .before .before .before .before .before .before .before in
-    let loop = c .before .before .before .before .before .before .loop in
-    (omega arith, omega arith, put-next _ _ (now (start .args .s)) _ _ (loop .i) _ _ (start .pre) (omega arith) (loop .inv .2) (c .before .before .put-byte .ensures))
+    let at-put-byte = c .before .before in
+    let at-loop = at-put-byte .before .before .before .before in
+    let start = at-loop .before .before .before in
+    let loop = at-loop .loop in
+    (omega arith, omega arith, put-next _ _ (now (start .args .s)) _ _ (loop .i) _ _ (start .pre) (omega arith) (loop .inv .2) (at-put-byte .put-byte .ensures))
 
 returns : tie.Need-returns Inv-loop μ-loop
 returns c = rw (take-all (c .before .loop .i) (now (c .before .before .before .before .args .s)) (omega arith)) at (c .before .loop .inv .2)

@@ -28,9 +28,12 @@ put-byte-requires c κs =
 
 loop-again : tie.Need-loop-again Inv-loop μ-loop
 loop-again c =
-    let start = c .before .before .before .before .before .before .before .before in
-    let loop = c .before .before .before .before .before .before .loop in
-    (omega arith, omega arith, put-column (columnByte (start .args .c) (start .args .w)) _ _ (start .args .n) (loop .v) _ _ _ _ _ (start .pre) (omega arith) (loop .inv .2) (c .before .before .before .column-byte .ensures) (c .before .before .put-byte .ensures))
+    let at-put-byte = c .before .before in
+    let at-column-byte = at-put-byte .before in
+    let at-loop = at-column-byte .before .before .before in
+    let start = at-loop .before .before in
+    let loop = at-loop .loop in
+    (omega arith, omega arith, put-column (columnByte (start .args .c) (start .args .w)) _ _ (start .args .n) (loop .v) _ _ _ _ _ (start .pre) (omega arith) (loop .inv .2) (at-column-byte .column-byte .ensures) (at-put-byte .put-byte .ensures))
 
 returns : tie.Need-returns Inv-loop μ-loop
 returns c = let q : c .before .loop .v ≡ c .before .before .before .args .n = omega arith in rw q at (c .before .loop .inv .2)

@@ -18,11 +18,18 @@ put-number-requires c κs =
 
 put-byte-requires : tie.Need-put-byte-requires
 put-byte-requires c κs =
-    let start = c .before .before .before .before .before .before .before .before .before .before .before in
-    omega (arith, start .pre, header-length (now (start .args .key)) (start .args .v), c .before .before .before .before .before .before .before .put-bytes .ensures .behind, c .before .before .before .put-number .ensures .behind)
+    let at-put-number = c .before .before .before in
+    let at-put-bytes = at-put-number .before .before .before .before in
+    let start = at-put-bytes .before .before .before .before in
+    omega (arith, start .pre, header-length (now (start .args .key)) (start .args .v), at-put-bytes .put-bytes .ensures .behind, at-put-number .put-number .ensures .behind)
 
 returns : tie.Need-returns
-returns c = put-header-text _ _ _ _ _ _ _ _ _ _ (c .before .before .before .before .before .before .before .before .before .before .before .before .before .before .pre) (c .before .before .before .before .before .before .before .before .before .before .put-bytes .ensures) (c .before .before .before .before .before .before .put-number .ensures) (c .before .before .put-byte .ensures)
+returns c =
+    let at-put-byte = c .before .before in
+    let at-put-number = at-put-byte .before .before .before .before in
+    let at-put-bytes = at-put-number .before .before .before .before in
+    let start = at-put-bytes .before .before .before .before in
+    put-header-text _ _ _ _ _ _ _ _ _ _ (start .pre) (at-put-bytes .put-bytes .ensures) (at-put-number .put-number .ensures) (at-put-byte .put-byte .ensures)
 
 pub put-header-spec : {M : Type 1} → statement M
 put-header-spec =

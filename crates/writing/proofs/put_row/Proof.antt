@@ -16,18 +16,27 @@ put-byte-requires c κs =
 
 put-columns-requires-2 : tie.Need-put-columns-requires-2
 put-columns-requires-2 c κs =
-    let start = c .before .before .before .before .before .before .before .before .before .before in
-    omega (arith, start .pre, row-length (columnByte (start .args .ins)) (columnByte (start .args .outs)) (start .args .n) (start .args .w), c .before .before .before .before .before .before .before .put-columns .ensures .behind, columns-length (columnByte (start .args .ins) (start .args .w)) (start .args .n), c .before .before .before .put-byte .ensures .behind)
+    let at-put-byte = c .before .before .before in
+    let at-put-columns = at-put-byte .before .before .before .before in
+    let start = at-put-columns .before .before .before in
+    omega (arith, start .pre, row-length (columnByte (start .args .ins)) (columnByte (start .args .outs)) (start .args .n) (start .args .w), at-put-columns .put-columns .ensures .behind, columns-length (columnByte (start .args .ins) (start .args .w)) (start .args .n), at-put-byte .put-byte .ensures .behind)
 
 put-byte-requires-2 : tie.Need-put-byte-requires-2
 put-byte-requires-2 c κs =
-    let start = c .before .before .before .before .before .before .before .before .before .before .before .before .before .before in
-    omega (arith, start .pre, row-length (columnByte (start .args .ins)) (columnByte (start .args .outs)) (start .args .n) (start .args .w), c .before .before .before .before .before .before .before .before .before .before .before .put-columns .ensures .behind, columns-length (columnByte (start .args .ins) (start .args .w)) (start .args .n), c .before .before .before .before .before .before .before .put-byte .ensures .behind, c .before .before .before .put-columns2 .ensures .behind, columns-length (columnByte (start .args .outs) (start .args .w)) (start .args .n))
+    let at-put-columns2 = c .before .before .before in
+    let at-put-byte = at-put-columns2 .before .before .before .before in
+    let at-put-columns = at-put-byte .before .before .before .before in
+    let start = at-put-columns .before .before .before in
+    omega (arith, start .pre, row-length (columnByte (start .args .ins)) (columnByte (start .args .outs)) (start .args .n) (start .args .w), at-put-columns .put-columns .ensures .behind, columns-length (columnByte (start .args .ins) (start .args .w)) (start .args .n), at-put-byte .put-byte .ensures .behind, at-put-columns2 .put-columns2 .ensures .behind, columns-length (columnByte (start .args .outs) (start .args .w)) (start .args .n))
 
 returns : tie.Need-returns
 returns c =
-    let start = c .before .before .before .before .before .before .before .before .before .before .before .before .before .before .before .before .before in
-    put-row-text _ _ (columnByte (start .args .ins)) (columnByte (start .args .outs)) (start .args .n) (start .args .w) _ _ _ _ _ _ _ _ (start .pre) (c .before .before .before .before .before .before .before .before .before .before .before .before .before .before .put-columns .ensures) (c .before .before .before .before .before .before .before .before .before .before .put-byte .ensures) (c .before .before .before .before .before .before .put-columns2 .ensures) (c .before .before .put-byte2 .ensures)
+    let at-put-byte2 = c .before .before in
+    let at-put-columns2 = at-put-byte2 .before .before .before .before in
+    let at-put-byte = at-put-columns2 .before .before .before .before in
+    let at-put-columns = at-put-byte .before .before .before .before in
+    let start = at-put-columns .before .before .before in
+    put-row-text _ _ (columnByte (start .args .ins)) (columnByte (start .args .outs)) (start .args .n) (start .args .w) _ _ _ _ _ _ _ _ (start .pre) (at-put-columns .put-columns .ensures) (at-put-byte .put-byte .ensures) (at-put-columns2 .put-columns2 .ensures) (at-put-byte2 .put-byte2 .ensures)
 
 pub put-row-spec : {M : Type 1} → statement M
 put-row-spec =

@@ -30,9 +30,11 @@ put-row-requires c κs =
 
 loop-again : tie.Need-loop-again Inv-loop μ-loop
 loop-again c =
-    let start = c .before .before .before .before .before .before .before .before .before in
-    let loop = c .before .before .before .before .before .before .loop in
-    (omega arith, omega arith, put-row-next (columnByte (start .args .ins)) (columnByte (start .args .outs)) (start .args .n) (now (start .args .words)) (loop .i) (omega arith) _ _ _ _ _ _ (start .pre) (loop .inv .2) (c .before .before .put-row .ensures))
+    let at-put-row = c .before .before in
+    let at-loop = at-put-row .before .before .before .before in
+    let start = at-loop .before .before .before in
+    let loop = at-loop .loop in
+    (omega arith, omega arith, put-row-next (columnByte (start .args .ins)) (columnByte (start .args .outs)) (start .args .n) (now (start .args .words)) (loop .i) (omega arith) _ _ _ _ _ _ (start .pre) (loop .inv .2) (at-put-row .put-row .ensures))
 
 returns : tie.Need-returns Inv-loop μ-loop
 returns c = rw (take-all (c .before .loop .i) (now (c .before .before .before .before .args .words)) (omega arith)) at (c .before .loop .inv .2)
