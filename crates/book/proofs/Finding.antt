@@ -1,27 +1,25 @@
 -- Where a state stands in a book: what `find_state` answers, and what its answer says of the book.
-use mathlib.Core.Path.{_≡_, refl, sym, ap, _∙_}
-use mathlib.Core.Logic.{_⊎_, inl, inr}
-use mathlib.Core.Bool.{Bool, true, false, _&&_, false≢true}
-use mathlib.Core.List.{List, [], _∷_, List·Memᴰ as Mem, List·Memᴰ·head as here, List·Memᴰ·tail as there, Memᴰ·cast}
-use Prim.Native.Nat.{ℕ, zero, suc, _≤_, _<_}
-use native.Mathlib.Nat.{le-of-suc-le-suc, not-suc-le-zero, zero-lt-suc, le-of-eq, le-of-lt}
+use mathlib.Core.Path.{_≡_, refl, sym, ap, _∙_, subst}
+use mathlib.Core.Bool.{Bool, true, false, _&&_}
+use mathlib.Core.List.{List, [], _∷_, _++_, List·Memᴰ as Mem, List·Memᴰ·head as here, List·Memᴰ·tail as there, Memᴰ·cast}
+use Prim.Native.Nat.{ℕ, zero, suc, _+_, _≤_, _<_}
+use native.Mathlib.Nat.{le-of-suc-le-suc, not-suc-le-zero, zero-lt-suc, le-of-eq}
 use native.Mathlib.Omega.{arith}
-use lib.Arith.{lt-of-le-ne}
 use lib.Dec.{eqb, ltb}
-use lib.ListN.{length, getD}
+use lib.ListN.{length, take, drop, getD}
+use lib.Seq.{length-take-le}
 use borrow.Author.Tests.{ltb-true, lt-ltb, le-ltb, eqb-true, eq-eqb}
-use Rattle.table.specs.Lists.{all, has, insert}
-use Rattle.table.specs.Surgery.{placeOf, oneMoreIf}
-use Rattle.table.proofs.Basics.{and-l, and-r, and-i, any-e, any-i, all-e, at-in, same-test, false-test}
-use Rattle.table.proofs.Counting.{has-e, has-i}
-use Rattle.table.proofs.Inserting.{insert-e}
-use Rattle.table.proofs.Shifting.{place-in}
-use Rattle.panel.specs.Transitions.{state, next, transitionWord, validTransition}
-use Rattle.panel.proofs.Transitions.{Transition, state-word, state-up, word-up, transition-fields, transition-e, same-transition}
-use Rattle.prime.specs.Books.{statesUp, goodBook, booked}
-use Rattle.prime.proofs.Books.{book-e, book-i, insert-up, one-word}
+use Rattle.table.specs.Lists.{all, insert}
+use Rattle.table.specs.Surgery.{placeOf, oneMoreIf, Holds}
+use Rattle.table.proofs.Basics.{and-l, and-r, and-i, all-e, at-in, same-test, false-test}
+use Rattle.table.proofs.Tables.{inserted-table}
+use Rattle.panel.specs.Transitions.{state, next, transitionWord}
+use Rattle.panel.proofs.Transitions.{state-word, word-up, transition-fields, same-transition}
+use Rattle.book.specs.Books.{statesUp, told, against, withWord}
 use Rattle.book.specs.Finding.{statePlace, standsAt, foundIf, findState}
 use Rattle.book.specs.declared.Found.the-variants.{At, Gap}
+use Rattle.book.proofs.Books.{one-word}
+use Rattle.book.proofs.Telling.{differ-e, differ-i, told-e, told-i, against-e, against-i, with-untold, with-longer}
 
 -- ---- the place of a state, and the place of a word
 
@@ -81,18 +79,6 @@ stands-of-at i b k e = go (statePlace i b) (standsAt i b (statePlace i b)) refl 
         })
     go p false s q = absurd (let z : _≡_ {A = ℕ} 0 1 = cc in omega arith)
 
-pub place-of-gap : (i : ℕ) (b : List ℕ) (k : ℕ) → findState i b ≡ Gap k → k ≡ statePlace i b
-unfolding findState
-place-of-gap i b k e = go (statePlace i b) (standsAt i b (statePlace i b)) e
-  where
-    go : (p : ℕ) (t : Bool) → foundIf t p ≡ Gap k → k ≡ p
-    go p true q = absurd (let z : _≡_ {A = ℕ} 0 1 = cc in omega arith)
-    go p false q = cc
-
--- the gap is a place in the book or right behind it
-pub gap-in : (i : ℕ) (b : List ℕ) (k : ℕ) → findState i b ≡ Gap k → k ≤ length b
-gap-in i b k e = omega (arith, place-of-gap i b k e, place-first i b, place-in (transitionWord i 0) b)
-
 -- a word of the state stands at the place of the state
 place-of-stands : (i : ℕ) (b : List ℕ) (k : ℕ) → statesUp b ≡ true → k < length b → state (getD b k 0) ≡ i → statePlace i b ≡ k
 place-of-stands i [] k u l e = absurd (not-suc-le-zero l)
@@ -129,74 +115,39 @@ only-of-at i b k up e u m p =
     let s = stands-of-at i b k e in
     one-word b up u (getD b k 0) m (at-in b k (s .inside)) (p ∙ sym (s .same))
 
--- ---- booked, and having the very word
+-- ---- told, and against, at the place of the state
 
-module _ (t : ℕ) (b : List ℕ) where
-  pub booked-e : booked t b ≡ true → (u : ℕ) × Mem u b × (state u ≡ state t)
-  unfolding booked
-  booked-e e = let r = any-e (λ u. eqb (state u) (state t)) b e in (r .0, r .1, eqb-true (state (r .0)) (state t) (r .2))
+module _ (t : ℕ) (b : List ℕ) (up : statesUp b ≡ true) where
+  -- where the state is found, the word is told exactly if its successor is there
+  pub told-of-at : (k : ℕ) → findState (state t) b ≡ At k → told t b ≡ eqb (next (getD b k 0)) (next t)
+  told-of-at k e =
+      let s = stands-of-at (state t) b k e in
+      same-test (told t b) (eqb (next (getD b k 0)) (next t))
+      (λ p. eq-eqb (next (getD b k 0)) (next t) (ap next (sym (only-of-at (state t) b k up e t (told-e t b p) refl))))
+      (λ p. told-i t b (Memᴰ·cast (same-transition t (getD b k 0) (sym (s .same)) (sym (eqb-true (next (getD b k 0)) (next t) p))) (at-in b k (s .inside))))
 
-  pub booked-i : (u : ℕ) → Mem u b → state u ≡ state t → booked t b ≡ true
-  unfolding booked
-  booked-i u m e = any-i (λ v. eqb (state v) (state t)) m (eq-eqb (state u) (state t) e)
+  -- and with another successor there, it is against the book
+  pub against-of-at : (k : ℕ) → findState (state t) b ≡ At k → (next (getD b k 0) ≡ next t → ⊥) → against t b ≡ true
+  against-of-at k e f =
+      let s = stands-of-at (state t) b k e in
+      against-i t b (getD b k 0) (at-in b k (s .inside)) (differ-i t (getD b k 0) (sym (s .same)) (λ p. f (sym p)))
 
-  pub booked-of-at : (k : ℕ) → findState (state t) b ≡ At k → booked t b ≡ true
-  booked-of-at k e = let s = stands-of-at (state t) b k e in booked-i (getD b k 0) (at-in b k (s .inside)) (s .same)
+  -- where it is not found, the word is neither
+  pub told-of-gap : (k : ℕ) → findState (state t) b ≡ Gap k → told t b ≡ false
+  told-of-gap k e = false-test (told t b) (λ p. none-of-gap (state t) b k up e t (told-e t b p) refl)
 
-  pub gap-of-free : booked t b ≡ false → findState (state t) b ≡ Gap (statePlace (state t) b)
-  unfolding findState
-  gap-of-free f = go (standsAt (state t) b (statePlace (state t) b)) refl
-    where
-      go : (a : Bool) → standsAt (state t) b (statePlace (state t) b) ≡ a → foundIf a (statePlace (state t) b) ≡ Gap (statePlace (state t) b)
-      go true p = absurd (false≢true (sym f ∙ booked-of-at (statePlace (state t) b) (ap (λ (x : Bool). foundIf x (statePlace (state t) b)) p)))
-      go false p = refl
+  pub against-of-gap : (k : ℕ) → findState (state t) b ≡ Gap k → against t b ≡ false
+  against-of-gap k e =
+      false-test (against t b) (λ p.
+      let r = against-e t b p in
+      none-of-gap (state t) b k up e (r .0) (r .1) (sym (differ-e t (r .0) (r .2) .0)))
 
-  module _ (up : statesUp b ≡ true) where
-    pub at-of-booked : booked t b ≡ true → (k : ℕ) × (findState (state t) b ≡ At k)
-    at-of-booked e =
-        let r = booked-e e in
-        let a = at-of-word b up (r .0) (r .1) in
-        (a .0, ap (λ (i : ℕ). findState i b) (sym (r .2)) ∙ a .1)
+-- ---- a word put into the book
 
-    pub free-of-gap : (k : ℕ) → findState (state t) b ≡ Gap k → booked t b ≡ false
-    free-of-gap k e = false-test (booked t b) (λ p. let r = booked-e p in none-of-gap (state t) b k up e (r .0) (r .1) (r .2))
+pub put-in : (s : List ℕ) (count t : ℕ) → count ≤ length s → told t (take count s) ≡ false → length (withWord t (take count s)) ≤ length s → count < length s
+put-in s count t l f h = omega (arith, with-longer t (take count s) f, length-take-le count s l)
 
-    -- where the state is found, the very word is there exactly if its successor is
-    pub has-of-at : (k : ℕ) → findState (state t) b ≡ At k → has t b ≡ eqb (next (getD b k 0)) (next t)
-    has-of-at k e =
-        let s = stands-of-at (state t) b k e in
-        same-test (has t b) (eqb (next (getD b k 0)) (next t))
-        (λ p. eq-eqb (next (getD b k 0)) (next t) (ap next (sym (only-of-at (state t) b k up e t (has-e t b p) refl))))
-        (λ p. has-i t b (Memᴰ·cast (same-transition t (getD b k 0) (sym (s .same)) (sym (eqb-true (next (getD b k 0)) (next t) p))) (at-in b k (s .inside))))
-
-    pub new-of-gap : (k : ℕ) → findState (state t) b ≡ Gap k → has t b ≡ false
-    new-of-gap k e = false-test (has t b) (λ p. none-of-gap (state t) b k up e t (has-e t b p) refl)
-
-    -- the very word is there exactly if the state is found with its successor
-    pub at-of-has : has t b ≡ true → (k : ℕ) × (findState (state t) b ≡ At k) × (next (getD b k 0) ≡ next t)
-    at-of-has e =
-        let a = at-of-word b up t (has-e t b e) in
-        (a .0, a .1, eqb-true (next (getD b (a .0) 0)) (next t) (sym (has-of-at (a .0) (a .1)) ∙ e))
-
--- ---- a word of a new state
-
--- its place is the gap
-pub gap-is-place : (t : ℕ) (b : List ℕ) (k : ℕ) → statesUp b ≡ true → findState (state t) b ≡ Gap k → k ≡ placeOf t b
-gap-is-place t b k up e =
-    place-of-gap (state t) b k e ∙ sym (place-same t (state t) b (λ u m.
-    same-test (ltb u t) (ltb (state u) (state t))
-    (λ p. lt-ltb (state u) (state t) (lt-of-le-ne (state-up u t (le-of-lt (ltb-true u t p))) (none-of-gap (state t) b k up e u m)))
-    (λ p. lt-ltb u t (word-up u t (ltb-true (state u) (state t) p)))))
-
--- with it the book stays good
-pub good-insert : (n t : ℕ) (b : List ℕ) → goodBook n b ≡ true → validTransition n t ≡ true → booked t b ≡ false → goodBook n (insert t b) ≡ true
-good-insert n t b g v f =
-    let k = book-e n b g in
-    book-i n (insert t b) (record {
-      valid = λ u m. one (k .valid) u (insert-e t b u m);
-      rising = insert-up t b (k .rising) (λ u m p. false≢true (sym f ∙ booked-i t b u m p));
-    })
-  where
-    one : ((u : ℕ) → Mem u b → Transition n u) → (u : ℕ) → (u ≡ t) ⊎ Mem u b → Transition n u
-    one h u (inl p) = rw p (transition-e n t v)
-    one h u (inr m) = h u m
+pub put-holds : (s e : List ℕ) (count t : ℕ) → count ≤ length s → told t (take count s) ≡ false → length (withWord t (take count s)) ≤ length s
+    → e ≡ insert t (take count s) ++ drop (count + 1) s → Holds e (count + 1) (length s) (withWord t (take count s))
+put-holds s e count t l f h q =
+    subst (Holds e (count + 1) (length s)) (sym (with-untold t (take count s) f)) (inserted-table s e count t (put-in s count t l f h) q)

@@ -2,48 +2,56 @@
 use mathlib.Core.Path.{_≡_, refl, sym, ap, _∙_}
 use mathlib.Core.Logic.{_⊎_, inl, inr, ⊎-elim}
 use mathlib.Core.Bool.{Bool, true, false, not, _&&_, false≢true}
-use mathlib.Core.List.{List, [], _∷_, List·Memᴰ as Mem, List·Memᴰ·head as here, List·Memᴰ·tail as there, Memᴰ·cast}
+use mathlib.Core.List.{List, [], _∷_, List·Memᴰ as Mem, List·Memᴰ·head as here, List·Memᴰ·tail as there}
 use Prim.Native.Nat.{ℕ, _<_}
 use native.Mathlib.Nat.{le-of-lt}
 use native.Mathlib.Omega.{arith}
 use lib.Arith.{lt-of-le-ne}
-use lib.Dec.{eqb, ltb}
-use borrow.Author.Tests.{lt-ltb, eqb-true, eqb-false}
-use Rattle.table.specs.Lists.{all, has, increasing}
-use Rattle.table.proofs.Basics.{and-l, and-r, and-i, not-i, not-e, any-e, any-i, all-i, same-test, false-test, passes}
+use lib.Dec.{ltb}
+use borrow.Author.Tests.{lt-ltb}
+use Rattle.table.specs.Lists.{all, increasing}
+use Rattle.table.proofs.Basics.{and-i, not-i, not-e, any-e, any-i, all-i, same-test, false-test, passes}
 use Rattle.table.proofs.Increasing.{first-below, rest-increasing}
-use Rattle.table.proofs.Counting.{has-e, has-i}
 use Rattle.panel.specs.Transitions.{state, next}
-use Rattle.panel.proofs.Transitions.{state-up, same-transition}
-use Rattle.prime.specs.Books.{statesUp, goodBook, booked, clash, union}
-use Rattle.prime.proofs.Books.{book-e, book-i, one-word, book-increasing, union-e, union-l, union-r, union-increasing}
+use Rattle.panel.proofs.Transitions.{state-up}
+use Rattle.book.specs.Books.{statesUp, goodBook, differ, against, clash, union}
 use Rattle.book.specs.Clashes.{Clash}
-use Rattle.book.proofs.Finding.{booked-e, booked-i}
+use Rattle.book.proofs.Books.{book-e, book-i, one-word, book-increasing}
+use Rattle.book.proofs.Telling.{differ-e, differ-i, differ-not, against-e, against-i}
+use Rattle.book.proofs.BookOf.{all-e, all-new, all-old, all-increasing}
+
+-- ---- the words of both
+
+pub union-e : (b c : List ℕ) (t : ℕ) → Mem t (union b c) → Mem t b ⊎ Mem t c
+unfolding union
+union-e b c t m = all-e b c t m
+
+pub union-l : (b c : List ℕ) (t : ℕ) → Mem t b → Mem t (union b c)
+unfolding union
+union-l b c t m = all-new b c t m
+
+pub union-r : (b c : List ℕ) (t : ℕ) → Mem t c → Mem t (union b c)
+unfolding union
+union-r b c t m = all-old b c t m
+
+pub union-increasing : (b c : List ℕ) → increasing c ≡ true → increasing (union b c) ≡ true
+unfolding union
+union-increasing b c up = all-increasing b c up
 
 -- ---- what a clash is
 
 pub clash-e : (b c : List ℕ) → clash b c ≡ true → (t : ℕ) × (u : ℕ) × Clash b c t u
 unfolding clash
 clash-e b c e =
-    let r = any-e (λ t. booked t c && not (has t c)) b e in
-    let t = r .0 in
-    let k = booked-e t c (and-l (booked t c) (not (has t c)) (r .2)) in (
-      t,
-      k .0,
-      record {
-        in-left = r .1;
-        in-right = k .1;
-        one-state = sym (k .2);
-        apart = λ p. not-e (has t c) (and-r (booked t c) (not (has t c)) (r .2)) (has-i t c (Memᴰ·cast (same-transition t (k .0) (sym (k .2)) p) (k .1)));
-      },
-    )
+    let r = any-e (λ t. against t c) b e in
+    let k = against-e (r .0) c (r .2) in
+    let d = differ-e (r .0) (k .0) (k .2) in
+    (r .0, k .0, record { in-left = r .1; in-right = k .1; one-state = d .0; apart = d .1 })
 
-pub clash-i : (b c : List ℕ) → statesUp c ≡ true → (t u : ℕ) → Clash b c t u → clash b c ≡ true
+pub clash-i : (b c : List ℕ) (t u : ℕ) → Clash b c t u → clash b c ≡ true
 unfolding clash
-clash-i b c up t u k =
-    any-i (λ v. booked v c && not (has v c)) (k .in-left)
-    (and-i (booked t c) (not (has t c)) (booked-i t c u (k .in-right) (sym (k .one-state)))
-    (not-i (has t c) (λ e. k .apart (ap next (one-word c up t u (has-e t c e) (k .in-right) (k .one-state))))))
+clash-i b c t u k =
+    any-i (λ v. against v c) (k .in-left) (against-i t c u (k .in-right) (differ-i t u (k .one-state) (k .apart)))
 
 -- ---- the union without a clash
 
@@ -62,15 +70,14 @@ module _ (b c : List ℕ) (p : statesUp b ≡ true) (q : statesUp c ≡ true) wh
   -- without a clash the states of the union are in order
   pub union-up : clash b c ≡ false → statesUp (union b c) ≡ true
   union-up e =
-      states-up (union b c) (union-increasing b c (book-increasing b p) (book-increasing c q))
+      states-up (union b c) (union-increasing b c (book-increasing c q))
       (λ t u m k. side t u (union-e b c t m) (union-e b c u k))
     where
       cross : (t u : ℕ) → Mem t b → Mem u c → state t ≡ state u → t ≡ u
-      cross t u m k s = go (eqb (next t) (next u)) refl
-        where
-          go : (a : Bool) → eqb (next t) (next u) ≡ a → t ≡ u
-          go true x = same-transition t u s (eqb-true (next t) (next u) x)
-          go false x = absurd (false≢true (sym e ∙ clash-i b c q t u (record { in-left = m; in-right = k; one-state = s; apart = eqb-false (next t) (next u) x })))
+      cross t u m k s =
+          differ-not t u (false-test (differ t u) (λ d.
+          let f = differ-e t u d in
+          false≢true (sym e ∙ clash-i b c t u (record { in-left = m; in-right = k; one-state = f .0; apart = f .1 })))) s
 
       side : (t u : ℕ) → Mem t b ⊎ Mem t c → Mem u b ⊎ Mem u c → state t ≡ state u → t ≡ u
       side t u (inl m) (inl k) s = one-word b p t u m k s

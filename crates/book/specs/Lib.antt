@@ -1,3 +1,4 @@
+pub mod Books
 pub mod Finding
 pub mod Clashes
 pub mod Merging

@@ -9,16 +9,16 @@ use lib.Dec.{eqb, ltb}
 use lib.ListN.{length, take, getD}
 use borrow.Author.Tests.{ltb-true, ltb-false, lt-ltb, le-ltb, eqb-true, eq-eqb, ne-eqb}
 use Rattle.table.proofs.Basics.{and-l, and-r}
-use Rattle.table.specs.Lists.{has}
 use Rattle.panel.specs.Masks.{panelSize}
 use Rattle.panel.specs.Transitions.{transitionWord, state, next}
 use Rattle.panel.proofs.Transitions.{state-word, next-word}
-use Rattle.prime.specs.Books.{statesUp, goodBook, booked}
 use Rattle.prime.specs.Sheets.{goodSheet}
+use Rattle.book.specs.Books.{statesUp, goodBook, told, against, withWord}
 use Rattle.book.specs.Finding.{findState}
 use Rattle.book.specs.declared.Found.{Found}
 use Rattle.book.specs.declared.Found.the-variants.{At, Gap}
-use Rattle.book.proofs.Finding.{stands-of-at, booked-of-at, has-of-at, new-of-gap, free-of-gap}
+use Rattle.book.proofs.Telling.{with-longer}
+use Rattle.book.proofs.Finding.{stands-of-at, told-of-at, against-of-at, told-of-gap, against-of-gap}
 use Rattle.answers.specs.Answers.{refuse}
 use Rattle.answers.proofs.Laws.{refuse-none}
 use Rattle.calls.specs.Fresh.{freshCode}
@@ -148,31 +148,35 @@ module _ (i j room : ℕ) (book : List ℕ) (lj : j < 1024) (up : statesUp book 
   pub booking-in : (k : ℕ) → r ≡ At k → k < length book
   booking-in k e = stands-of-at i book k (sym er ∙ e) .inside
 
-  has-is : (k : ℕ) → r ≡ At k → (x : ℕ) → x ≡ next (getD book k 0) → has t book ≡ eqb x j
-  has-is k e x ex = has-of-at t book up k (at-t k e) ∙ ap₂ eqb (sym ex) (next-word i j lj)
+  told-is : (k : ℕ) → r ≡ At k → (x : ℕ) → x ≡ next (getD book k 0) → told t book ≡ eqb x j
+  told-is k e x ex = told-of-at t book up k (at-t k e) ∙ ap₂ eqb (sym ex) (next-word i j lj)
 
   pub booking-same : (k : ℕ) → r ≡ At k → (x : ℕ) → x ≡ next (getD book k 0) → x ≡ j → 1 ≡ bookingCode t room book
   unfolding bookingCode
-  booking-same k e x ex q = sym (simp (has-is k e x ex ∙ eq-eqb x j q))
+  booking-same k e x ex q = sym (simp (told-is k e x ex ∙ eq-eqb x j q))
 
   pub booking-other : (k : ℕ) → r ≡ At k → (x : ℕ) → x ≡ next (getD book k 0) → (x ≡ j → ⊥) → 7 ≡ bookingCode t room book
   unfolding bookingCode
-  booking-other k e x ex f = sym (simp (has-is k e x ex ∙ ne-eqb x j f, booked-of-at t book k (at-t k e)))
+  booking-other k e x ex f =
+      sym (simp (told-is k e x ex ∙ ne-eqb x j f, against-of-at t book up k (at-t k e) (λ p. f (ex ∙ p ∙ next-word i j lj))))
+
+  with-one : (k : ℕ) → r ≡ Gap k → length (withWord t book) ≡ suc (length book)
+  with-one k e = with-longer t book (told-of-gap t book up k (gap-t k e))
 
   pub booking-full : (k : ℕ) → r ≡ Gap k → room ≤ length book → 8 ≡ bookingCode t room book
   unfolding bookingCode
   booking-full k e l =
-      sym (simp (new-of-gap t book up k (gap-t k e), free-of-gap t book up k (gap-t k e), lt-ltb room (length book + 1) (omega arith)))
+      sym (simp (told-of-gap t book up k (gap-t k e), against-of-gap t book up k (gap-t k e), lt-ltb room (length (withWord t book)) (omega (arith, with-one k e))))
 
   pub booking-ok : (k : ℕ) → r ≡ Gap k → length book < room → 0 ≡ bookingCode t room book
   unfolding bookingCode
   booking-ok k e l =
-      sym (simp (new-of-gap t book up k (gap-t k e), free-of-gap t book up k (gap-t k e), le-ltb room (length book + 1) (omega arith)))
+      sym (simp (told-of-gap t book up k (gap-t k e), against-of-gap t book up k (gap-t k e), le-ltb room (length (withWord t book)) (omega (arith, with-one k e))))
 
-pub booking-none : (t room : ℕ) (book : List ℕ) → bookingCode t room book ≡ 0 → (has t book ≡ false) × (booked t book ≡ false) × (length book < room)
+pub booking-none : (t room : ℕ) (book : List ℕ) → bookingCode t room book ≡ 0 → (told t book ≡ false) × (against t book ≡ false) × (length (withWord t book) ≤ room)
 unfolding bookingCode
 booking-none t room book e =
-    let a = refuse-none (has t book) 0 _ e in
-    let b = refuse-none (booked t book) 6 _ (a .1) in
-    let c = refuse-none (ltb room (length book + 1)) 7 _ (b .1) in
-    (a .0, b .0, omega (arith, ltb-false room (length book + 1) (c .0)))
+    let a = refuse-none (told t book) 0 _ e in
+    let b = refuse-none (against t book) 6 _ (a .1) in
+    let c = refuse-none (ltb room (length (withWord t book))) 7 _ (b .1) in
+    (a .0, b .0, ltb-false room (length (withWord t book)) (c .0))

@@ -10,21 +10,20 @@ use lib.Pow.{pow-mono}
 use lib.ListN.{length, take, drop}
 use lib.Seq.{length-take-le}
 use borrow.Author.Tests.{ltb-false, lt-ltb, le-ltb}
-use Rattle.table.specs.Lists.{increasing, insert}
 use Rattle.table.proofs.Counting.{missing-le}
 use Rattle.table.specs.Surgery.{filled, clearedFrom, Holds}
-use Rattle.table.proofs.Tables.{holds-filled, over-holds, inserted-table, increasing-short}
+use Rattle.table.proofs.Tables.{holds-filled, over-holds, increasing-short}
 use Rattle.panel.specs.Masks.{panelSize}
 use Rattle.panel.specs.Transitions.{transitionWord}
-use Rattle.prime.specs.Books.{statesUp, goodBook, booked}
 use Rattle.prime.specs.Sheets.{freshSheet, takeSheet, goodSheet, struckCount, addedCount}
 use Rattle.prime.proofs.Least.{Good, good-e}
 use Rattle.prime.proofs.Laws.{take-good}
-use Rattle.prime.proofs.Books.{book-e, book-increasing}
 use Rattle.prime.proofs.Passes.{rule-small}
 use Rattle.panel.specs.Rules.{validRule}
 use Rattle.panel.proofs.Words.{rule-i}
 use Rattle.heirs.proofs.Counts.{counts-balance}
+use Rattle.book.specs.Books.{withWord}
+use Rattle.book.proofs.Books.{book-e}
 use Rattle.sheet.specs.Taking.{tallyOf}
 use Rattle.sheet.specs.declared.Tally.{Tally}
 use Rattle.sheet.proofs.Fresh.{fresh-length}
@@ -35,8 +34,8 @@ use Rattle.calls.specs.Fresh.{freshCode, freshAnswer, freshWords, Fresh}
 use Rattle.calls.specs.Take.{lentCode, bookingCode, entryCode, takeCode, innerCode, innerAnswer, Ready, Inner, takeAnswer, takeBook, takeWords, Taken}
 use Rattle.calls.proofs.Codes.{not-no, size-of, Lent, lent-none, booking-none}
 
-same-done : (b : ℕ) {p p′ q q′ u u′ : ℕ} → p ≡ p′ → q ≡ q′ → u ≡ u′ → done b p q u ≡ done b p′ q′ u′
-same-done b e1 e2 e3 = λ x. done b (e1 x) (e2 x) (e3 x)
+same-done : {b b′ p p′ q q′ u u′ : ℕ} → b ≡ b′ → p ≡ p′ → q ≡ q′ → u ≡ u′ → done b p q u ≡ done b′ p′ q′ u′
+same-done e0 e1 e2 e3 = λ x. done (e0 x) (e1 x) (e2 x) (e3 x)
 
 -- ---- fresh
 
@@ -69,7 +68,7 @@ module _ (n : ℕ) (s : List ℕ) (c : ℕ) (ec : c ≡ freshCode n (length s)) 
 
 -- ---- take where only 9 is left
 
-module _ (n t : ℕ) (book : List ℕ) (books : ℕ) (sheet : List ℕ) (sheets : ℕ) (k : Ready n book books sheet sheets) where
+module _ (n t : ℕ) (book : List ℕ) (books : ℕ) (sheet : List ℕ) (sheets : ℕ) (k : Ready n t book books sheet sheets) where
   abbrev new : List ℕ
   new = takeSheet n (take sheets sheet) t
 
@@ -129,16 +128,17 @@ module _ (n t : ℕ) (book : List ℕ) (books : ℕ) (sheet : List ℕ) (sheets 
       pub inner-room : length new ≤ length sheet
       inner-room = omega (arith, ec, count-is)
 
-      pub inner-done : (bz sz : List ℕ) (m : ℕ) → bz ≡ insert t (take books book) ++ drop (books + 1) book → Holds sz m (length sheet) new
-          → (r : Answer) → r ≡ done (books + 1) m (y .struck) (y .added) → Inner n t book books sheet sheets bz sz r
+      pub inner-done : (bz sz : List ℕ) (l m : ℕ) → Holds bz l (length book) (withWord t (take books book)) → Holds sz m (length sheet) new
+          → (r : Answer) → r ≡ done l m (y .struck) (y .added) → Inner n t book books sheet sheets bz sz r
       unfolding innerAnswer innerCode
-      inner-done bz sz m eb h r er =
+      inner-done bz sz l m g h r er =
           let q : refuse (ltb (length sheet) (length new)) 9 0 ≡ 0 = ap (λ (b : Bool). refuse b 9 0) (le-ltb (length sheet) (length new) inner-room) in
+          let ll : l ≡ length (withWord t (take books book)) = sym (length-take-le l bz (g .fits)) ∙ ap length (g .is) in
           let lm : m ≡ length new = sym (length-take-le m sz (h .fits)) ∙ ap length (h .is) in
           record {
-            answer = er ∙ same-done (books + 1) lm struck-is added-is ∙ sym (answer-done (refuse (ltb (length sheet) (length new)) 9 0) _ _ q);
+            answer = er ∙ same-done ll lm struck-is added-is ∙ sym (answer-done (refuse (ltb (length sheet) (length new)) 9 0) _ _ q);
             kept = λ f. absurd (f q);
-            booked-in = λ p. inserted-table book bz books t (k .room) eb;
+            booked-in = λ p. subst (λ (x : ℕ). Holds bz x (length book) (withWord t (take books book))) ll g;
             taken-in = λ p. subst (λ (x : ℕ). Holds sz x (length sheet) new) lm h;
           }
 
@@ -166,16 +166,19 @@ module _ (spoilt : Bool) (n : ℕ) (book : List ℕ) (books : ℕ) (sheet : List
   unfolding entryCode
   entry-known c ec e = lent-none spoilt n book books sheet sheets i j (refuse-both (lentCode spoilt n book books sheet sheets i j) _ (sym ec ∙ e) .0)
 
-  pub entry-ready : (c : ℕ) → c ≡ entry → c ≡ 0 → Ready n book books sheet sheets
+  pub entry-ready : (c : ℕ) → c ≡ entry → c ≡ 0 → (w : ℕ) → w ≡ word → Ready n w book books sheet sheets
   unfolding entryCode
-  entry-ready c ec e =
+  entry-ready c ec e w ew =
       let l = entry-known c ec e in
-      let b = booking-none word (length book) (take books book) (refuse-both (lentCode spoilt n book books sheet sheets i j) _ (sym ec ∙ e) .1) in
+      let z : bookingCode word (length book) (take books book) ≡ 0 = refuse-both (lentCode spoilt n book books sheet sheets i j) _ (sym ec ∙ e) .1 in
+      let b = booking-none w (length book) (take books book) (ap (λ (x : ℕ). bookingCode x (length book) (take books book)) ew ∙ z) in
       record {
         small = l .small;
-        room = omega (arith, b .2, length-take-le books book (l .books-in));
+        books-in = l .books-in;
+        in-order = book-e n (take books book) (l .good-book) .rising;
+        untold = b .0;
+        room = b .2;
         sheets-in = l .sheets-in;
-        in-order = book-increasing (take books book) (book-e n (take books book) (l .good-book) .rising);
         good-sheet = l .good-sheet;
       }
 
@@ -207,14 +210,14 @@ module _ (spoilt : Bool) (n : ℕ) (book : List ℕ) (books : ℕ) (sheet : List
     answer-is : a ≡ takeAnswer spoilt n book books sheet sheets i j
     unfolding takeAnswer innerAnswer
     answer-is =
-        h .answer ∙ ap (λ (x : ℕ). innerAnswer n x books sheet sheets) ew
-        ∙ ap (λ (x : ℕ). answerIf x (done (books + 1) (length (takeSheet n (take sheets sheet) word)) (struckCount (take sheets sheet) (takeSheet n (take sheets sheet) word)) (addedCount (take sheets sheet) (takeSheet n (take sheets sheet) word))) (plain x 0 books sheets)) (sym code-is)
+        h .answer ∙ ap (λ (x : ℕ). innerAnswer n x book books sheet sheets) ew
+        ∙ ap (λ (x : ℕ). answerIf x (done (length (withWord word (take books book))) (length (takeSheet n (take sheets sheet) word)) (struckCount (take sheets sheet) (takeSheet n (take sheets sheet) word)) (addedCount (take sheets sheet) (takeSheet n (take sheets sheet) word))) (plain x 0 books sheets)) (sym code-is)
 
     answer-code : a .code ≡ inner
     unfolding innerAnswer
-    answer-code = ap (λ (x : Answer). x .code) (h .answer) ∙ ap (λ (x : ℕ). (innerAnswer n x books sheet sheets) .code) ew ∙ picked-code inner
+    answer-code = ap (λ (x : Answer). x .code) (h .answer) ∙ ap (λ (x : ℕ). (innerAnswer n x book books sheet sheets) .code) ew ∙ picked-code inner
       where
-        picked-code : (x : ℕ) → (answerIf x (done (books + 1) (length (takeSheet n (take sheets sheet) word)) (struckCount (take sheets sheet) (takeSheet n (take sheets sheet) word)) (addedCount (take sheets sheet) (takeSheet n (take sheets sheet) word))) (plain x 0 books sheets)) .code ≡ x
+        picked-code : (x : ℕ) → (answerIf x (done (length (withWord word (take books book))) (length (takeSheet n (take sheets sheet) word)) (struckCount (take sheets sheet) (takeSheet n (take sheets sheet) word)) (addedCount (take sheets sheet) (takeSheet n (take sheets sheet) word))) (plain x 0 books sheets)) .code ≡ x
         picked-code zero = refl
         picked-code (suc x) = refl
 
@@ -233,20 +236,20 @@ module _ (spoilt : Bool) (n : ℕ) (book : List ℕ) (books : ℕ) (sheet : List
       inner-zero : innerCode n w sheet sheets ≡ 0
       inner-zero = same-inner ∙ sym answer-code ∙ z
 
-      done-parts : a ≡ done (books + 1) (length (takeSheet n (take sheets sheet) word)) (struckCount (take sheets sheet) (takeSheet n (take sheets sheet) word)) (addedCount (take sheets sheet) (takeSheet n (take sheets sheet) word))
+      done-parts : a ≡ done (length (withWord word (take books book))) (length (takeSheet n (take sheets sheet) word)) (struckCount (take sheets sheet) (takeSheet n (take sheets sheet) word)) (addedCount (take sheets sheet) (takeSheet n (take sheets sheet) word))
       unfolding takeAnswer
       done-parts = answer-is ∙ answer-done code _ _ (code-is ∙ sym answer-code ∙ z)
 
-      next-is : a .«book_count» ≡ books + 1
+      next-is : a .«book_count» ≡ length (withWord word (take books book))
       next-is = ap (λ (x : Answer). x .«book_count») done-parts
 
       count-new : a .«sheet_count» ≡ length (takeSheet n (take sheets sheet) word)
       count-new = ap (λ (x : Answer). x .«sheet_count») done-parts
 
-      book-holds : Holds bz (a .«book_count») (length book) (insert word (take books book))
+      book-holds : Holds bz (a .«book_count») (length book) (withWord word (take books book))
       book-holds =
-          subst (λ (x : ℕ). Holds bz x (length book) (insert word (take books book))) (sym next-is)
-          (subst (λ (x : ℕ). Holds bz (books + 1) (length book) (insert x (take books book))) ew (h .booked-in inner-zero))
+          subst (λ (x : ℕ). Holds bz x (length book) (withWord word (take books book))) (sym next-is)
+          (subst (λ (x : ℕ). Holds bz (length (withWord x (take books book))) (length book) (withWord x (take books book))) ew (h .booked-in inner-zero))
 
       sheet-holds : Holds sz (a .«sheet_count») (length sheet) (takeSheet n (take sheets sheet) word)
       sheet-holds =

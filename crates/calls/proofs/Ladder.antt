@@ -5,10 +5,9 @@ use mathlib.Core.List.{List}
 use Prim.Native.Nat.{ℕ, zero, suc, _+_, _^_}
 use lib.Dec.{eqb, ltb}
 use lib.ListN.{length, take}
-use Rattle.table.specs.Lists.{has}
 use Rattle.panel.specs.Masks.{panelSize}
 use Rattle.panel.specs.Transitions.{transitionWord}
-use Rattle.prime.specs.Books.{goodBook, booked}
+use Rattle.book.specs.Books.{goodBook, told, against, withWord}
 use Rattle.prime.specs.Sheets.{goodSheet, takeSheet}
 use Rattle.answers.specs.Answers.{refuse}
 use Rattle.calls.specs.Take.{lentCode, bookingCode, entryCode, innerCode, takeCode}
@@ -42,14 +41,14 @@ pub take-asks : (spoilt : Bool) (n : ℕ) (book : List ℕ) (books : ℕ) (sheet
     (refuse (not (goodBook n (take books book))) 4
     (refuse (not (goodSheet n (take sheets sheet))) 5
     (refuse (not (ltb i (2 ^ n) && ltb j (2 ^ n))) 6
-    (refuse (has (transitionWord i j) (take books book)) 1
-    (refuse (booked (transitionWord i j) (take books book)) 7
-    (refuse (ltb (length book) (length (take books book) + 1)) 8
+    (refuse (told (transitionWord i j) (take books book)) 1
+    (refuse (against (transitionWord i j) (take books book)) 7
+    (refuse (ltb (length book) (length (withWord (transitionWord i j) (take books book)))) 8
     (refuse (ltb (length sheet) (length (takeSheet n (take sheets sheet) (transitionWord i j)))) 9
     0))))))))
 unfolding takeCode entryCode lentCode bookingCode innerCode ladder
 take-asks spoilt n book books sheet sheets i j =
     parts (not (panelSize n)) (spoilt || (ltb (length book) books || ltb (length sheet) sheets)) (not (goodBook n (take books book)))
-    (not (goodSheet n (take sheets sheet))) (not (ltb i (2 ^ n) && ltb j (2 ^ n))) (has (transitionWord i j) (take books book))
-    (booked (transitionWord i j) (take books book)) (ltb (length book) (length (take books book) + 1))
+    (not (goodSheet n (take sheets sheet))) (not (ltb i (2 ^ n) && ltb j (2 ^ n))) (told (transitionWord i j) (take books book))
+    (against (transitionWord i j) (take books book)) (ltb (length book) (length (withWord (transitionWord i j) (take books book))))
     (ltb (length sheet) (length (takeSheet n (take sheets sheet) (transitionWord i j))))

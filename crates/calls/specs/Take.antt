@@ -1,16 +1,15 @@
 -- Take: the answer and every word of the lent book and sheet, for all inputs.
 use mathlib.Core.Path.{_≡_}
-use mathlib.Core.Bool.{Bool, true, not, _&&_, _||_}
+use mathlib.Core.Bool.{Bool, true, false, not, _&&_, _||_}
 use mathlib.Core.List.{List}
-use Prim.Native.Nat.{ℕ, _+_, _^_, _≤_, _<_}
+use Prim.Native.Nat.{ℕ, _^_, _≤_}
 use lib.Dec.{eqb, ltb}
 use lib.ListN.{length, take}
-use Rattle.table.specs.Lists.{has, insert, increasing}
 use Rattle.table.specs.Surgery.{filled, Holds}
 use Rattle.panel.specs.Masks.{panelSize}
 use Rattle.panel.specs.Transitions.{transitionWord}
-use Rattle.prime.specs.Books.{goodBook, booked}
 use Rattle.prime.specs.Sheets.{goodSheet, takeSheet, struckCount, addedCount}
+use Rattle.book.specs.Books.{statesUp, goodBook, told, against, withWord}
 use Rattle.answers.specs.Answers.{refuse, plain, done, answerIf, wordsIf}
 use Rattle.answers.specs.declared.Answer.{Answer}
 
@@ -23,9 +22,9 @@ lentCode spoilt n book books sheet sheets i j =
     (refuse (not (goodSheet n (take sheets sheet))) 5
     (refuse (not (ltb i (2 ^ n) && ltb j (2 ^ n))) 6 0))))
 
--- this very transition is booked, its state is booked with another successor, the book is full
+-- the transition is told already, it is against the book, the book with it is too long
 unfoldable pub bookingCode : ℕ → ℕ → List ℕ → ℕ
-bookingCode t room book = refuse (has t book) 1 (refuse (booked t book) 7 (refuse (ltb room (length book + 1)) 8 0))
+bookingCode t room book = refuse (told t book) 1 (refuse (against t book) 7 (refuse (ltb room (length (withWord t book))) 8 0))
 
 -- the refusals before the new sheet is known
 unfoldable pub entryCode : Bool → ℕ → List ℕ → ℕ → List ℕ → ℕ → ℕ → ℕ → ℕ
@@ -47,15 +46,15 @@ takeCode spoilt n book books sheet sheets i j =
 unfoldable pub takeAnswer : Bool → ℕ → List ℕ → ℕ → List ℕ → ℕ → ℕ → ℕ → Answer
 takeAnswer spoilt n book books sheet sheets i j =
     answerIf (takeCode spoilt n book books sheet sheets i j)
-    (done (books + 1) (length (takeSheet n (take sheets sheet) (transitionWord i j)))
+    (done (length (withWord (transitionWord i j) (take books book))) (length (takeSheet n (take sheets sheet) (transitionWord i j)))
     (struckCount (take sheets sheet) (takeSheet n (take sheets sheet) (transitionWord i j)))
     (addedCount (take sheets sheet) (takeSheet n (take sheets sheet) (transitionWord i j))))
     (plain (takeCode spoilt n book books sheet sheets i j) 0 books sheets)
 
--- the book with the transition in its place, and 0 beyond; a refusal or code 1 changes no word
+-- the book with the transition, and 0 beyond; a refusal or code 1 changes no word
 unfoldable pub takeBook : Bool → ℕ → List ℕ → ℕ → List ℕ → ℕ → ℕ → ℕ → List ℕ
 takeBook spoilt n book books sheet sheets i j =
-    wordsIf (takeCode spoilt n book books sheet sheets i j) (filled (length book) (insert (transitionWord i j) (take books book))) book
+    wordsIf (takeCode spoilt n book books sheet sheets i j) (filled (length book) (withWord (transitionWord i j) (take books book))) book
 
 -- the new sheet, and 0 beyond; a refusal or code 1 changes no word
 unfoldable pub takeWords : Bool → ℕ → List ℕ → ℕ → List ℕ → ℕ → ℕ → ℕ → List ℕ
@@ -64,27 +63,29 @@ takeWords spoilt n book books sheet sheets i j =
 
 -- ---- take where only 9 is left
 
-unfoldable pub innerAnswer : ℕ → ℕ → ℕ → List ℕ → ℕ → Answer
-innerAnswer n t books sheet sheets =
+unfoldable pub innerAnswer : ℕ → ℕ → List ℕ → ℕ → List ℕ → ℕ → Answer
+innerAnswer n t book books sheet sheets =
     answerIf (innerCode n t sheet sheets)
-    (done (books + 1) (length (takeSheet n (take sheets sheet) t))
+    (done (length (withWord t (take books book))) (length (takeSheet n (take sheets sheet) t))
     (struckCount (take sheets sheet) (takeSheet n (take sheets sheet) t))
     (addedCount (take sheets sheet) (takeSheet n (take sheets sheet) t)))
     (plain (innerCode n t sheet sheets) 0 books sheets)
 
--- what such a take needs: a book in order with room for one word more, and a good sheet
-pub record Ready (n : ℕ) (book : List ℕ) (books : ℕ) (sheet : List ℕ) (sheets : ℕ) : Type 0 where
+-- what such a take needs: a book in order, which does not tell the word and has room for it, and a good sheet
+pub record Ready (n t : ℕ) (book : List ℕ) (books : ℕ) (sheet : List ℕ) (sheets : ℕ) : Type 0 where
   pub small : n ≤ 10
-  pub room : books < length book
+  pub books-in : books ≤ length book
+  pub in-order : statesUp (take books book) ≡ true
+  pub untold : told t (take books book) ≡ false
+  pub room : length (withWord t (take books book)) ≤ length book
   pub sheets-in : sheets ≤ length sheet
-  pub in-order : increasing (take books book) ≡ true
   pub good-sheet : goodSheet n (take sheets sheet) ≡ true
 
 -- what such a take does
 pub record Inner (n t : ℕ) (book : List ℕ) (books : ℕ) (sheet : List ℕ) (sheets : ℕ) (book′ sheet′ : List ℕ) (r : Answer) : Type 0 where
-  pub answer : r ≡ innerAnswer n t books sheet sheets
+  pub answer : r ≡ innerAnswer n t book books sheet sheets
   pub kept : (innerCode n t sheet sheets ≡ 0 → ⊥) → (book′ ≡ book) × (sheet′ ≡ sheet)
-  pub booked-in : innerCode n t sheet sheets ≡ 0 → Holds book′ (books + 1) (length book) (insert t (take books book))
+  pub booked-in : innerCode n t sheet sheets ≡ 0 → Holds book′ (length (withWord t (take books book))) (length book) (withWord t (take books book))
   pub taken-in : innerCode n t sheet sheets ≡ 0 → Holds sheet′ (length (takeSheet n (take sheets sheet) t)) (length sheet) (takeSheet n (take sheets sheet) t)
 
 -- what take does: its answer r, and both slices before and after

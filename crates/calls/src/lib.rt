@@ -7,7 +7,7 @@ ghost use mathlib.Core.Path.{_≡_};
 ghost use mathlib.Core.Bool.{Bool, true, false};
 ghost use lib.ListN.{length, take};
 ghost use Prim.Native.Nat.{_≤_, _<_};
-ghost use Rattle.prime.specs.Books.{statesUp};
+ghost use Rattle.book.specs.Books.{statesUp};
 ghost use Rattle.panel.specs.Transitions.{transitionWord};
 ghost use Rattle.calls.specs.Fresh.{freshCode, Fresh};
 ghost use Rattle.calls.specs.Take.{lentCode, bookingCode, entryCode, Ready, Inner, Taken};
@@ -70,7 +70,7 @@ fn lent_code(
     if sheet.len() < sheets {
         return 3;
     }
-    if !prime::is_good_book(n, &book[..books]) {
+    if !book::is_good_book(n, &book[..books]) {
         return 4;
     }
     if !prime::is_good_sheet(n, &sheet[..sheets]) {
@@ -86,7 +86,7 @@ fn lent_code(
     0
 }
 
-// The codes 1, 7 and 8: this transition is booked, another of its state is, the book is full.
+// The codes 1, 7 and 8: this transition is told already, another of its state is, the book is full.
 pub fn booking_code(book: &[u32], i: u32, j: u32, room: usize) -> u32
     requires { ⌜ (i < 1024) × (j < 1024) × (statesUp (now book) ≡ true) ⌝ }
     ensures { λ r. ⌜ r ≡ bookingCode (transitionWord i j) room (now (book .entry)) ⌝ }
@@ -137,7 +137,7 @@ pub fn take_in(
     sheet: &mut [u32],
     sheets: usize,
 ) -> Answer
-    requires { ⌜ Ready n (now book) books (now sheet) sheets ⌝ }
+    requires { ⌜ Ready n t (now book) books (now sheet) sheets ⌝ }
     ensures { λ r. ⌜ Inner n t (now (book .entry)) books (now (sheet .entry)) sheets (now (book .exit)) (now (sheet .exit)) r ⌝ }
 {
     let change = sheet::count_changes(&sheet[..sheets], n, t);
@@ -146,9 +146,9 @@ pub fn take_in(
     if sheet.len() < sheets + added - struck {
         return plain_answer(9, 0, books, sheets);
     }
-    table::insert_sorted(book, books, t);
+    let next = book::put_word(book, books, t);
     let count = sheet::take_rules(sheet, sheets, n, t);
-    done_answer(books + 1, count, struck, added)
+    done_answer(next, count, struck, added)
 }
 
 // Take, refused with 3 also where `spoilt` says so.

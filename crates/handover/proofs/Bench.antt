@@ -11,7 +11,7 @@ use Rattle.table.proofs.Basics.{and-l, and-r}
 use Rattle.panel.specs.Masks.{panelSize, relays, on, allOn, allOff, bitsWhere}
 use Rattle.panel.specs.Rules.{ruleWord, head, mustOn, mustOff, validRule, covers, contains, narrows, rules}
 use Rattle.panel.specs.Transitions.{transitionWord, state, next, observed, validTransition, rests, spared}
-use Rattle.prime.specs.Books.{goodBook, booked, clash, union}
+use Rattle.book.specs.Books.{goodBook, differ, told, against, withWord, clash, union}
 use Rattle.prime.specs.Sheets.{least, sheetWhere, permits, goodSheet, freshSheet, takeSheet, joinSheet, struckCount, addedCount, pullsIn, applySheet}
 use Rattle.answers.specs.declared.Answer.{Answer}
 use Rattle.calls.specs.declared.Applied.{Applied}
@@ -23,7 +23,7 @@ use Rattle.handover.specs.Bench.{Row, learns, takes, joins, applies, Sta
 
 -- every row of the bench passes its test
 pub bench-holds : tableHolds bench ≡ true
-unfolding has missing filled panelSize relays on allOn allOff bitsWhere ruleWord head mustOn mustOff validRule covers contains narrows rules transitionWord state next observed validTransition rests spared goodBook booked clash union least sheetWhere permits goodSheet freshSheet takeSheet joinSheet struckCount addedCount pullsIn applySheet lentCode bookingCode entryCode innerCode takeCode takeAnswer takeBook takeWords applyCode applyAnswer taken learnStep learnWords learnStart reproduced learnEnd learnRun runAnswer runBook runSheet exceeds piecesCode joinCode joinAnswer bookAfter sheetAfter
+unfolding has missing filled panelSize relays on allOn allOff bitsWhere ruleWord head mustOn mustOff validRule covers contains narrows rules transitionWord state next observed validTransition rests spared goodBook differ told against withWord clash union least sheetWhere permits goodSheet freshSheet takeSheet joinSheet struckCount addedCount pullsIn applySheet lentCode bookingCode entryCode innerCode takeCode takeAnswer takeBook takeWords applyCode applyAnswer taken learnStep learnWords learnStart reproduced learnEnd learnRun runAnswer runBook runSheet exceeds piecesCode joinCode joinAnswer bookAfter sheetAfter
 bench-holds = refl
 
 -- ---- what the tests mean

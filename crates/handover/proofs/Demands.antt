@@ -1,21 +1,19 @@
 -- Demands 2 and 3, over the contracts of learn and join and nothing else.
 use mathlib.Core.Path.{_≡_, refl, sym, ap, ap₂, _∙_, subst}
 use mathlib.Core.Logic.{_⊎_, inl, inr}
-use mathlib.Core.Bool.{true}
-use mathlib.Core.List.{List, List·Memᴰ as Mem}
+use mathlib.Core.List.{List, _++_, List·Memᴰ as Mem, List·Memᴰ·append-cases, Memᴰ·append-left, Memᴰ·append-right}
 use Prim.Native.Nat.{ℕ, zero, suc, _+_, _-_, _≤_}
 use native.Mathlib.Omega.{arith}
 use lib.ListN.{length, take, drop, replicate, length-append, length-replicate}
 use lib.Seq.{take-at, drop-at, length-take-le}
 use Rattle.table.specs.Lists.{increasing}
 use Rattle.table.specs.Surgery.{filled}
-use Rattle.table.proofs.Increasing.{increasing-unique}
-use Rattle.prime.specs.Books.{union}
 use Rattle.prime.specs.Sheets.{sheetOf, joinSheet}
 use Rattle.prime.proofs.Laws.{sheetOf-good, sheetOf-members}
 use Rattle.prime.proofs.Primes.{sheetOf-prime, prime-sheetOf, join-members}
 use Rattle.prime.proofs.Apply.{Booked}
-use Rattle.prime.proofs.Books.{book-e, book-increasing, union-e, union-l, union-r, union-increasing}
+use Rattle.book.specs.Books.{bookOf, union}
+use Rattle.book.proofs.BookOf.{book-from, book-to, book-rises, book-members, book-union}
 use Rattle.answers.specs.Answers.{plain, done, answerIf}
 use Rattle.answers.specs.declared.Answer.{Answer}
 use Rattle.answers.proofs.Laws.{answer-done, words-done}
@@ -46,31 +44,31 @@ module _ (s ws : List ℕ) (room count : ℕ) (es : s ≡ filled room ws) (ec : 
 
 -- ---- demand 2
 
--- book b in order with the members of ts, and the sheet of ts, each in use in its slice
-module _ (n : ℕ) (small : n ≤ 10) (ts b s : List ℕ) (p : Piece)
-    (book-in : p .book-count ≤ length (p .book-words)) (used-book : bookIn p ≡ b) (sheet-in : p .sheet-count ≤ length (p .sheet-words)) (used-sheet : sheetIn p ≡ s)
-    (up : increasing b ≡ true) (only : (t : ℕ) → Mem t b → Mem t ts) (each : (t : ℕ) → Mem t ts → Mem t b) (is : s ≡ sheetOf n ts) where
+-- the book and the sheet of ts, each in use in its slice
+module _ (n : ℕ) (small : n ≤ 10) (ts : List ℕ) (p : Piece)
+    (book-in : p .book-count ≤ length (p .book-words)) (is-book : bookIn p ≡ bookOf ts) (sheet-in : p .sheet-count ≤ length (p .sheet-words)) (is-sheet : sheetIn p ≡ sheetOf n ts) where
   pub in-use-of : InUse n ts p
   in-use-of = record {
     book-in = book-in;
-    book-rising = ap increasing used-book ∙ up;
-    book-only = λ t m. only t (subst (λ (z : List ℕ). Mem t z) used-book m);
-    book-all = λ t m. subst (λ (z : List ℕ). Mem t z) (sym used-book) (each t m);
+    is-book = is-book;
+    book-rising = ap increasing is-book ∙ book-rises ts;
+    book-only = λ t m. book-from ts t (subst (λ (z : List ℕ). Mem t z) is-book m);
+    book-all = λ t m. subst (λ (z : List ℕ). Mem t z) (sym is-book) (book-to ts t m);
     sheet-in = sheet-in;
-    is-sheet = used-sheet ∙ is;
-    sheet-rising = ap increasing (used-sheet ∙ is) ∙ sheetOf-good n small ts .sorted;
-    only-prime = λ w m. sheetOf-prime n small ts w (subst (λ (z : List ℕ). Mem w z) (used-sheet ∙ is) m);
-    all-prime = λ w p. subst (λ (z : List ℕ). Mem w z) (sym (used-sheet ∙ is)) (prime-sheetOf n small ts w p);
+    is-sheet = is-sheet;
+    sheet-rising = ap increasing is-sheet ∙ sheetOf-good n small ts .sorted;
+    only-prime = λ w m. sheetOf-prime n small ts w (subst (λ (z : List ℕ). Mem w z) is-sheet m);
+    all-prime = λ w p. subst (λ (z : List ℕ). Mem w z) (sym is-sheet) (prime-sheetOf n small ts w p);
   }
 
 -- the same, each at the front of its slice with 0 beyond: the piece is complete
 pub complete : (n : ℕ) → n ≤ 10 → (ts b s : List ℕ) (p : Piece) (bookRoom sheetRoom : ℕ)
     → p .book-words ≡ filled bookRoom b → p .book-count ≡ length b → p .sheet-words ≡ filled sheetRoom s → p .sheet-count ≡ length s
-    → increasing b ≡ true → ((t : ℕ) → Mem t b → Mem t ts) → ((t : ℕ) → Mem t ts → Mem t b) → s ≡ sheetOf n ts → Complete n ts p
-complete n small ts b s p bookRoom sheetRoom eb cb es cs up only each is = record {
+    → b ≡ bookOf ts → s ≡ sheetOf n ts → Complete n ts p
+complete n small ts b s p bookRoom sheetRoom eb cb es cs is-book is-sheet = record {
   in-use =
-      in-use-of n small ts b s p (count-in (p .book-words) b bookRoom (p .book-count) eb cb) (used-is (p .book-words) b bookRoom (p .book-count) eb cb)
-      (count-in (p .sheet-words) s sheetRoom (p .sheet-count) es cs) (used-is (p .sheet-words) s sheetRoom (p .sheet-count) es cs) up only each is;
+      in-use-of n small ts p (count-in (p .book-words) b bookRoom (p .book-count) eb cb) (used-is (p .book-words) b bookRoom (p .book-count) eb cb ∙ is-book)
+      (count-in (p .sheet-words) s sheetRoom (p .sheet-count) es cs) (used-is (p .sheet-words) s sheetRoom (p .sheet-count) es cs ∙ is-sheet);
   book-rest = rest-zero (p .book-words) b bookRoom (p .book-count) eb cb;
   sheet-rest = rest-zero (p .sheet-words) s sheetRoom (p .sheet-count) es cs;
 }
@@ -101,7 +99,7 @@ learn-complete n ts o l =
     let h = held n ts (l .book-room) (l .sheet-room) (o .book) (o .sheet) (o .answer) (l .contract) (l .learned) in
     complete n (h .read .small) ts (h .b) (h .s) (lent o) (l .book-room) (l .sheet-room)
     (h .books) (ap (λ (a : Answer). a .«book_count») (h .answers)) (h .sheets) (ap (λ (a : Answer). a .«sheet_count») (h .answers))
-    (book-increasing (h .b) (book-e n (h .b) (h .read .good) .rising)) (h .read .into) (h .read .all-in) (h .read .is-sheet)
+    (h .read .is-book) (h .read .is-sheet)
 
 -- the panel of a learn that is not refused has at most 10 relays
 pub learns-small : (n : ℕ) (ts : List ℕ) (o : Outcome) → Learns n ts o → n ≤ 10
@@ -147,9 +145,7 @@ in-use-same n small ts us o q c d f g = record {
 }
   where
     same-book : bookUsed o ≡ bookUsed q
-    same-book =
-        increasing-unique (bookUsed o) (bookUsed q) (c .book-rising) (d .book-rising)
-        (λ t m. d .book-all t (f t (c .book-only t m))) (λ t m. c .book-all t (g t (d .book-only t m)))
+    same-book = c .is-book ∙ book-members ts us f g ∙ sym (d .is-book)
 
     same-sheet : sheetUsed o ≡ sheetUsed q
     same-sheet = c .is-sheet ∙ sheetOf-members n small ts us f g ∙ sym (d .is-sheet)
@@ -176,9 +172,7 @@ join-complete n small ts ps qs p q o v c d j =
     (ap (λ (a : Answer). a .«book_count») answers)
     (j .contract .sheet-left ∙ words-done code (filled (length (j .sheet-before)) (joinedSheet n p q)) (j .sheet-before) zero-code)
     (ap (λ (a : Answer). a .«sheet_count») answers)
-    (union-increasing (bookIn p) (bookIn q) (c .book-rising) (d .book-rising))
-    (λ t m. into t (union-e (bookIn p) (bookIn q) t m))
-    (λ t m. out t (v .covered t m))
+    (ap₂ union (c .is-book) (d .is-book) ∙ book-union ps qs ∙ book-members (ps ++ qs) ts (λ t m. into t (List·Memᴰ·append-cases ps m)) (λ t m. out t (v .covered t m)))
     (ap₂ (joinSheet n) (c .is-sheet) (d .is-sheet) ∙ join-members n small ps qs ts (v .covered) (v .left-in) (v .right-in))
   where
     code : ℕ
@@ -190,13 +184,13 @@ join-complete n small ts ps qs p q o v c d j =
     answers : o .answer ≡ done (length (joinedBook p q)) (length (joinedSheet n p q)) 0 0
     answers = j .contract .answer ∙ answer-done code (done (length (joinedBook p q)) (length (joinedSheet n p q)) 0 0) (plain code 0 0 0) zero-code
 
-    into : (t : ℕ) → Mem t (bookIn p) ⊎ Mem t (bookIn q) → Mem t ts
-    into t (inl m) = v .left-in t (c .book-only t m)
-    into t (inr m) = v .right-in t (d .book-only t m)
+    into : (t : ℕ) → Mem t ps ⊎ Mem t qs → Mem t ts
+    into t (inl m) = v .left-in t m
+    into t (inr m) = v .right-in t m
 
-    out : (t : ℕ) → Mem t ps ⊎ Mem t qs → Mem t (union (bookIn p) (bookIn q))
-    out t (inl m) = union-l (bookIn p) (bookIn q) t (c .book-all t m)
-    out t (inr m) = union-r (bookIn p) (bookIn q) t (d .book-all t m)
+    out : (t : ℕ) → Mem t ps ⊎ Mem t qs → Mem t (ps ++ qs)
+    out t (inl m) = Memᴰ·append-left qs m
+    out t (inr m) = Memᴰ·append-right ps m
 
 -- demand 3: the pieces learned apart and joined, and the whole learned in any order, agree number for number, and both are what demand 2 defines.
 -- That no state has two successors needs no premise: the calls would have been refused.

@@ -9,6 +9,7 @@ use Rattle.table.specs.Surgery.{filled}
 use Rattle.panel.specs.Transitions.{transitionWord}
 use Rattle.prime.specs.Sheets.{freshSheet}
 use Rattle.prime.proofs.Laws.{fresh-sheetOf}
+use Rattle.book.proofs.BookOf.{book-none}
 use Rattle.sheet.proofs.Fresh.{fresh-length}
 use Rattle.answers.specs.Answers.{plain, answerIf}
 use Rattle.answers.specs.declared.Answer.{Answer}
@@ -105,9 +106,8 @@ module _ (n : ℕ) (book sheet sheet′ : List ℕ) (r : Outcome) (h : Starts n 
       subst (λ (q : Session). Going n [] q book sheet′) (sym start-session) (record {
         size = refl;
         in-use =
-            in-use-of n small [] [] (freshSheet n) (tables (freshSession n) book sheet′) (omega arith) refl
-            (count-in sheet′ (freshSheet n) (length sheet) n start-words count) (used-is sheet′ (freshSheet n) (length sheet) n start-words count)
-            refl (λ t m. m) (λ t m. m) (fresh-sheetOf n small);
+            in-use-of n small [] (tables (freshSession n) book sheet′) (omega arith) (sym book-none)
+            (count-in sheet′ (freshSheet n) (length sheet) n start-words count) (used-is sheet′ (freshSheet n) (length sheet) n start-words count ∙ fresh-sheetOf n small);
         book-rest = λ f. f refl;
         sheet-rest = rest-zero sheet′ (freshSheet n) (length sheet) n start-words count;
       })

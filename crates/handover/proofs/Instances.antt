@@ -12,7 +12,7 @@ use Rattle.panel.specs.Masks.{panelSize, relays, on, allOn, allOff, bitsWhere}
 use Rattle.panel.specs.Rules.{ruleWord, head, mustOn, mustOff, validRule, covers, contains, narrows, rules}
 use Rattle.panel.specs.Transitions.{transitionWord, state, next, observed, validTransition, rests, spared}
 use Rattle.panel.proofs.Words.{rule-e}
-use Rattle.prime.specs.Books.{goodBook, booked, clash, union}
+use Rattle.book.specs.Books.{goodBook, differ, told, against, withWord, clash, union}
 use Rattle.prime.specs.Sheets.{least, sheetWhere, permits, goodSheet, freshSheet, takeSheet, joinSheet, struckCount, addedCount, pullsIn, applySheet}
 use Rattle.answers.specs.Answers.{plain, done}
 use Rattle.answers.specs.declared.Answer.{Answer}
@@ -70,7 +70,7 @@ record Contracts : Type 0 where
   refused : TakesLent both-taken (0 ∷ 1024 ∷ []) (0 ∷ 0 ∷ []) 0 1 both-taken (0 ∷ 1024 ∷ []) (0 ∷ 0 ∷ []) (plain 7 0 2 0)
 
 contracts : Contracts
-unfolding has missing filled panelSize relays on allOn allOff bitsWhere ruleWord head mustOn mustOff validRule covers contains narrows rules transitionWord state next observed validTransition rests spared goodBook booked clash union least sheetWhere permits goodSheet freshSheet takeSheet joinSheet struckCount addedCount pullsIn applySheet freshCode freshAnswer freshWords lentCode bookingCode entryCode innerCode takeCode takeAnswer takeBook takeWords taken learnStep learnWords learnStart reproduced learnEnd learnRun runAnswer runBook runSheet exceeds piecesCode joinCode joinAnswer bookAfter sheetAfter startSession totalsFit sessionAfter sessionAnswer sessionTaken sessionBook sessionWords
+unfolding has missing filled panelSize relays on allOn allOff bitsWhere ruleWord head mustOn mustOff validRule covers contains narrows rules transitionWord state next observed validTransition rests spared goodBook differ told against withWord clash union least sheetWhere permits goodSheet freshSheet takeSheet joinSheet struckCount addedCount pullsIn applySheet freshCode freshAnswer freshWords lentCode bookingCode entryCode innerCode takeCode takeAnswer takeBook takeWords taken learnStep learnWords learnStart reproduced learnEnd learnRun runAnswer runBook runSheet exceeds piecesCode joinCode joinAnswer bookAfter sheetAfter startSession totalsFit sessionAfter sessionAnswer sessionTaken sessionBook sessionWords
 contracts = record {
   k2 = record { answer = refl; book-words = refl; sheet-words = refl };
   one-to-zero = record { answer = refl; book-words = refl; sheet-words = refl };

@@ -8,7 +8,7 @@ use Rattle.table.specs.Surgery.{filled}
 use Rattle.panel.specs.Masks.{panelSize, relays, on, allOn, allOff, bitsWhere}
 use Rattle.panel.specs.Rules.{ruleWord, head, mustOn, mustOff, validRule, covers, contains, narrows, rules}
 use Rattle.panel.specs.Transitions.{transitionWord, state, next, observed, validTransition, rests, spared}
-use Rattle.prime.specs.Books.{goodBook, booked}
+use Rattle.book.specs.Books.{goodBook, differ, told, against, withWord}
 use Rattle.prime.specs.Sheets.{least, sheetWhere, permits, goodSheet, freshSheet, takeSheet, struckCount, addedCount, pullsIn, applySheet}
 use Rattle.learning.specs.Learn.{taken, learnStep, learnWords, learnStart, reproduced, learnEnd, learnRun, runAnswer, runBook, runSheet, Learned}
 use Rattle.handover.specs.Learning.{Learnable, LearnRefused}
@@ -43,7 +43,7 @@ pub record Instances : Type 0 where
   pub k8-sheet-full : LearnRefused 3 (transitionWord 7 3 ∷ transitionWord 3 1 ∷ []) 2 5 9 1
 
 pub instances : Instances
-unfolding has missing filled panelSize relays on allOn allOff bitsWhere ruleWord head mustOn mustOff validRule covers contains narrows rules transitionWord state next observed validTransition rests spared goodBook booked least sheetWhere permits goodSheet freshSheet takeSheet struckCount addedCount pullsIn applySheet taken learnStep learnWords learnStart reproduced learnEnd learnRun runAnswer
+unfolding has missing filled panelSize relays on allOn allOff bitsWhere ruleWord head mustOn mustOff validRule covers contains narrows rules transitionWord state next observed validTransition rests spared goodBook differ told against withWord least sheetWhere permits goodSheet freshSheet takeSheet struckCount addedCount pullsIn applySheet taken learnStep learnWords learnStart reproduced learnEnd learnRun runAnswer
 instances = record {
   k6 = learned-exactly (does 2 (transitionWord 3 0 ∷ []) 1 4) .0 refl;
   k8 = learned-exactly (does 3 (transitionWord 7 3 ∷ transitionWord 3 1 ∷ []) 2 6) .0 refl;

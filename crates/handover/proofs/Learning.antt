@@ -1,37 +1,28 @@
 -- Learn in any room: its answer is 0 exactly where nothing stops learning, and else it is exactly the refusal of its words, over its contract and nothing else.
 use mathlib.Core.Path.{_≡_, refl, sym, ap, _∙_, subst}
 use mathlib.Core.Logic.{_⊎_, inl, inr, _↔_}
-use mathlib.Core.Bool.{true, false, false≢true}
+use mathlib.Core.Bool.{true, false}
 use mathlib.Core.List.{List, [], _∷_, _++_, List·Memᴰ as Mem, List·Memᴰ·head as here, List·Memᴰ·append-cases, List·Memᴰ·eq-of-singleton, Memᴰ·append-left, Memᴰ·append-right, Memᴰ·cast, append-assoc, append-nil, nil≢cons, head-eq-of-cons-eq, tail-eq-of-cons-eq}
 use Prim.Native.Nat.{ℕ, _+_, _≤_, _<_}
 use native.Mathlib.Omega.{arith}
 use lib.ListN.{length}
-use Rattle.table.specs.Lists.{has, insert}
-use Rattle.table.proofs.Counting.{has-e, has-i}
-use Rattle.table.proofs.Inserting.{insert-length}
 use Rattle.panel.specs.Masks.{panelSize}
 use Rattle.panel.specs.Transitions.{state, next, validTransition}
 use Rattle.panel.proofs.Transitions.{transition-i, same-transition}
-use Rattle.prime.specs.Books.{booked}
 use Rattle.prime.specs.Sheets.{takeSheet, sheetOf, struckCount, addedCount}
-use Rattle.prime.proofs.Books.{book-e, book-increasing}
-use Rattle.prime.proofs.Laws.{fresh-sheetOf, sheetOf-members}
-use Rattle.book.proofs.Finding.{booked-e}
+use Rattle.prime.proofs.Laws.{fresh-sheetOf}
+use Rattle.book.specs.Books.{against, withWord, bookOf}
+use Rattle.book.proofs.Books.{book-e}
+use Rattle.book.proofs.Telling.{told-i, one-next-e, one-next-i}
+use Rattle.book.proofs.BookOf.{book-to, book-repeat, book-longer, against-book}
 use Rattle.sheet.proofs.Fresh.{fresh-length}
 use Rattle.calls.proofs.Codes.{size-of}
 use Rattle.answers.specs.declared.Answer.{Answer}
 use Rattle.learning.specs.Learn.{Run, going, refused, learnRun, runAnswer, Learned}
 use Rattle.learning.proofs.Ways.{Opening, two, nine-at-once, opened, Way, six, passed-over, seven, eight, nine, taken-up, run-keeps}
-use Rattle.joining.specs.Joining.{Piece, bookIn}
-use Rattle.handover.specs.Demands.{InUse}
-use Rattle.handover.specs.Learning.{bookOf, Learnable, Before, Agrees, Stops, invalid, contradicted, book-full, sheet-full, LearnRefused, no-panel, no-room, at-word}
-use Rattle.handover.proofs.Runs.{Read, read-booked, start-read, again, one-more, run-words}
-use Rattle.handover.proofs.BookOf.{book-is, book-more, book-longer}
+use Rattle.handover.specs.Learning.{Learnable, Before, Agrees, Stops, invalid, contradicted, book-full, sheet-full, LearnRefused, no-panel, no-room, at-word}
+use Rattle.handover.proofs.Runs.{Read, read-in, read-booked, start-read, same-sheet, again, one-more, run-words}
 use Rattle.handover.proofs.Stopping.{learnable-not-refused, learn-refused-once}
-
--- the book of the words read is the one that learn keeps
-read-book : (n : ℕ) (ts b s : List ℕ) (x y : ℕ) → Read n ts b s x y → bookOf ts ≡ b
-read-book n ts b s x y l = book-is ts b (book-increasing b (book-e n b (l .good) .rising)) (l .into) (l .all-in)
 
 -- what begins a list with one more word is the whole, or begins the list
 begins : (ps : List ℕ) (t : ℕ) (qs rest : List ℕ) → ps ++ t ∷ [] ≡ qs ++ rest → (qs ≡ ps ++ t ∷ []) ⊎ ((m : List ℕ) × (ps ≡ qs ++ m))
@@ -60,9 +51,9 @@ module _ (n bookRoom sheetRoom : ℕ) where
   went-learnable : (ps b s : List ℕ) (x y : ℕ) → Went ps b s x y → Learnable n ps bookRoom sheetRoom
   went-learnable ps b s x y w = record {
     size = w .size;
-    valid = λ t m. transition-i n t (book-e n b (w .read .good) .valid t (w .read .all-in t m));
-    one-next = read-booked n ps b s x y (w .read) .one-next;
-    book-fits = omega (arith, w .book-in, ap length (read-book n ps b s x y (w .read)));
+    valid = λ t m. transition-i n t (book-e n b (w .read .good) .valid t (read-in n ps b s x y (w .read) t m));
+    one-next = one-next-i ps (read-booked n ps b s x y (w .read) .one-next);
+    book-fits = omega (arith, w .book-in, ap length (w .read .is-book));
     sheets-fit = w .sheets-in;
   }
 
@@ -108,33 +99,31 @@ module _ (n bookRoom sheetRoom : ℕ) where
     stopped : (c : ℕ) → Stops n ps t bookRoom sheetRoom c → LearnRefused n (ps ++ t ∷ []) bookRoom sheetRoom c (length ps)
     stopped c q = at-word ps t (length ps) c (record { rest = []; whole = refl; number = refl }) (went-learnable ps b s x y w) q
 
-    another : has t b ≡ false → validTransition n t ≡ true → booked t b ≡ true → Stops n ps t bookRoom sheetRoom 7
-    another h v o =
-        let u = booked-e t b o in
-        contradicted (u .0) v (w .read .into (u .0) (u .1)) (u .2) (λ q. false≢true (sym h ∙ has-i t b (Memᴰ·cast (sym (same-transition (u .0) t (u .2) q)) (u .1))))
+    another : validTransition n t ≡ true → against t b ≡ true → Stops n ps t bookRoom sheetRoom 7
+    another v o = contradicted v (sym (against-book t ps) ∙ ap (against t) (sym (w .read .is-book)) ∙ o)
 
-    module _ (v : validTransition n t ≡ true) (o : booked t b ≡ false) where
+    module _ (v : validTransition n t ≡ true) (o : against t b ≡ false) where
       abbrev new : List ℕ
       new = takeSheet n s t
 
-      taken : Read n (ps ++ t ∷ []) (insert t b) new (x + struckCount s new) (y + addedCount s new)
+      taken : Read n (ps ++ t ∷ []) (withWord t b) new (x + struckCount s new) (y + addedCount s new)
       taken = one-more n t ps b s x y (w .read) v o
 
       agrees : Agrees n ps t
-      agrees = record { valid = v; one-next = read-booked n (ps ++ t ∷ []) (insert t b) new (x + struckCount s new) (y + addedCount s new) taken .one-next }
+      agrees = record { valid = v; one-next = one-next-i (ps ++ t ∷ []) (read-booked n (ps ++ t ∷ []) (withWord t b) new (x + struckCount s new) (y + addedCount s new) taken .one-next) }
 
-      book-length : length (bookOf (ps ++ t ∷ [])) ≡ length b + 1
-      book-length = ap length (read-book n (ps ++ t ∷ []) (insert t b) new (x + struckCount s new) (y + addedCount s new) taken) ∙ insert-length t b ∙ omega arith
+      book-length : length (bookOf (ps ++ t ∷ [])) ≡ length (withWord t b)
+      book-length = ap length (sym (taken .is-book))
 
     word-ended : (r : Run) → Way n bookRoom sheetRoom (length ps) t b s x y r → Ended (ps ++ t ∷ []) r
     word-ended _ (six e) = stopped 6 (invalid e)
     word-ended _ (passed-over v e) =
-        went-more ps b s x y w t b s x y (again n t ps b s x y (w .read) (has-e t b e)) (w .book-in) (omega (arith, ap length (w .read .is-sheet), w .sheets-in ps [] (sym (append-nil ps))))
-    word-ended _ (seven v e o) = stopped 7 (another e v o)
+        went-more ps b s x y w t b s x y (again n t ps b s x y (w .read) e) (w .book-in) (omega (arith, ap length (w .read .is-sheet), w .sheets-in ps [] (sym (append-nil ps))))
+    word-ended _ (seven v h o) = stopped 7 (another v o)
     word-ended _ (eight v o g) = stopped 8 (book-full (agrees v o) (omega (arith, g, book-length v o)))
     word-ended _ (nine v o f g) =
         stopped 9 (sheet-full (agrees v o) (omega (arith, f, book-length v o)) (omega (arith, g, ap length (taken v o .is-sheet))))
-    word-ended _ (taken-up v o f g) = went-more ps b s x y w t (insert t b) (takeSheet n s t) (x + struckCount s (takeSheet n s t)) (y + addedCount s (takeSheet n s t)) (taken v o) (omega (arith, f, insert-length t b)) g
+    word-ended _ (taken-up v o f g) = went-more ps b s x y w t (withWord t b) (takeSheet n s t) (x + struckCount s (takeSheet n s t)) (y + addedCount s (takeSheet n s t)) (taken v o) f g
 
   -- what learn's run comes to
   run-ended : (ts : List ℕ) → Ended ts (learnRun n bookRoom sheetRoom ts)
@@ -163,11 +152,14 @@ pub repeat-passed : (n : ℕ) (ps : List ℕ) (w bookRoom sheetRoom : ℕ) → L
 repeat-passed n ps w bookRoom sheetRoom l m = record {
   size = l .size;
   valid = λ t k. l .valid t (old t k);
-  one-next = λ t u k j e. l .one-next t u (old t k) (old u j) e;
-  book-fits = omega (arith, l .book-fits, book-more (ps ++ w ∷ []) ps old);
+  one-next = λ t k. sym (against-book t (ps ++ w ∷ [])) ∙ ap (against t) stays ∙ against-book t ps ∙ l .one-next t (old t k);
+  book-fits = omega (arith, l .book-fits, ap length stays);
   sheets-fit = λ qs rest e. go qs (begins ps w qs rest e);
 }
   where
+    stays : bookOf (ps ++ w ∷ []) ≡ bookOf ps
+    stays = book-repeat w ps (told-i w (bookOf ps) (book-to ps w m))
+
     old : (t : ℕ) → Mem t (ps ++ w ∷ []) → Mem t ps
     old t k = cases (List·Memᴰ·append-cases ps k)
       where
@@ -180,7 +172,7 @@ repeat-passed n ps w bookRoom sheetRoom l m = record {
         omega (
           arith,
           ap (λ (z : List ℕ). length (sheetOf n z)) e,
-          ap length (sheetOf-members n (size-of n (l .size) .1) (ps ++ w ∷ []) ps old (λ t k. Memᴰ·append-left (w ∷ []) k)),
+          ap length (same-sheet n (size-of n (l .size) .1) (ps ++ w ∷ []) ps stays),
           l .sheets-fit ps [] (sym (append-nil ps)),
         )
     go qs (inr k) = l .sheets-fit qs (k .0) (k .1)
@@ -196,7 +188,7 @@ full-exactly n ps w bookRoom sheetRoom l a = (
 )
   where
     agree : (u : ℕ) → Mem u ps → state u ≡ state w → next u ≡ next w
-    agree u m e = a .one-next u w (Memᴰ·append-left (w ∷ []) m) (Memᴰ·append-right ps (here refl)) e
+    agree u m e = one-next-e (ps ++ w ∷ []) (a .one-next) u w (Memᴰ·append-left (w ∷ []) m) (Memᴰ·append-right ps (here refl)) e
 
 -- ---- over the contract of learn
 
@@ -204,48 +196,44 @@ refused-some : {n : ℕ} {ts : List ℕ} {bookRoom sheetRoom c p : ℕ} → Lear
 refused-some (no-panel e) = omega arith
 refused-some (no-room e g) = omega arith
 refused-some (at-word ps w k c a l (invalid e)) = omega arith
-refused-some (at-word ps w k c a l (contradicted u v m e f)) = omega arith
+refused-some (at-word ps w k c a l (contradicted v e)) = omega arith
 refused-some (at-word ps w k c a l (book-full g h)) = omega arith
 refused-some (at-word ps w k c a l (sheet-full g h f)) = omega arith
 
 -- an answer of learn: 0 where nothing stops learning, or the refusal of the words
-data Told (n : ℕ) (ts : List ℕ) (bookRoom sheetRoom : ℕ) (r : Answer) : Type 0 where
-  learned : r .code ≡ 0 → Learnable n ts bookRoom sheetRoom → Told n ts bookRoom sheetRoom r
-  not-learned : LearnRefused n ts bookRoom sheetRoom (r .code) (r .place) → Told n ts bookRoom sheetRoom r
+data Ending (n : ℕ) (ts : List ℕ) (bookRoom sheetRoom : ℕ) (r : Answer) : Type 0 where
+  learned : r .code ≡ 0 → Learnable n ts bookRoom sheetRoom → Ending n ts bookRoom sheetRoom r
+  not-learned : LearnRefused n ts bookRoom sheetRoom (r .code) (r .place) → Ending n ts bookRoom sheetRoom r
 
 module _ {n : ℕ} {ts : List ℕ} {bookRoom sheetRoom : ℕ} {book′ sheet′ : List ℕ} {r : Answer} (l : Learned n ts bookRoom sheetRoom book′ sheet′ r) where
-  told : Told n ts bookRoom sheetRoom r
+  ending : Ending n ts bookRoom sheetRoom r
   unfolding runAnswer
-  told = go (learnRun n bookRoom sheetRoom ts) refl (l .answer)
+  ending = go (learnRun n bookRoom sheetRoom ts) refl (l .answer)
     where
-      go : (q : Run) → learnRun n bookRoom sheetRoom ts ≡ q → r ≡ runAnswer q → Told n ts bookRoom sheetRoom r
+      go : (q : Run) → learnRun n bookRoom sheetRoom ts ≡ q → r ≡ runAnswer q → Ending n ts bookRoom sheetRoom r
       go (going b s x y) w e = learned (ap (λ (a : Answer). a .code) e) (run-learnable n bookRoom sheetRoom w)
       go (refused c p) q e = not-learned (subst (λ (a : Answer). LearnRefused n ts bookRoom sheetRoom (a .code) (a .place)) (sym e) (run-refused n bookRoom sheetRoom q))
 
   -- 0 is answered exactly where nothing stops learning
   pub learned-exactly : (r .code ≡ 0) ↔ Learnable n ts bookRoom sheetRoom
-  learned-exactly = (λ e. to e told, λ k. back k told)
+  learned-exactly = (λ e. to e ending, λ k. back k ending)
     where
-      to : r .code ≡ 0 → Told n ts bookRoom sheetRoom r → Learnable n ts bookRoom sheetRoom
+      to : r .code ≡ 0 → Ending n ts bookRoom sheetRoom r → Learnable n ts bookRoom sheetRoom
       to e (learned z k) = k
       to e (not-learned q) = absurd (omega (arith, e, refused-some q))
 
-      back : Learnable n ts bookRoom sheetRoom → Told n ts bookRoom sheetRoom r → r .code ≡ 0
+      back : Learnable n ts bookRoom sheetRoom → Ending n ts bookRoom sheetRoom r → r .code ≡ 0
       back k (learned z j) = z
       back k (not-learned q) = absurd (learnable-not-refused n bookRoom sheetRoom k q)
 
   -- and any other code with a place exactly where the words are so refused
   pub refused-exactly : (c p : ℕ) → (c ≡ 0 → ⊥) → ((r .code ≡ c) × (r .place ≡ p)) ↔ LearnRefused n ts bookRoom sheetRoom c p
-  refused-exactly c p some = (λ e. to (e .0) (e .1) told, λ q. back q told)
+  refused-exactly c p some = (λ e. to (e .0) (e .1) ending, λ q. back q ending)
     where
-      to : r .code ≡ c → r .place ≡ p → Told n ts bookRoom sheetRoom r → LearnRefused n ts bookRoom sheetRoom c p
+      to : r .code ≡ c → r .place ≡ p → Ending n ts bookRoom sheetRoom r → LearnRefused n ts bookRoom sheetRoom c p
       to e f (learned z k) = absurd (some (sym e ∙ z))
       to e f (not-learned q) = subst (λ (z : ℕ). LearnRefused n ts bookRoom sheetRoom c z) f (subst (λ (z : ℕ). LearnRefused n ts bookRoom sheetRoom z (r .place)) e q)
 
-      back : LearnRefused n ts bookRoom sheetRoom c p → Told n ts bookRoom sheetRoom r → (r .code ≡ c) × (r .place ≡ p)
+      back : LearnRefused n ts bookRoom sheetRoom c p → Ending n ts bookRoom sheetRoom r → (r .code ≡ c) × (r .place ≡ p)
       back q (learned z k) = absurd (learnable-not-refused n bookRoom sheetRoom k q)
       back q (not-learned k) = learn-refused-once n bookRoom sheetRoom k q
-
--- the book in use is the book of the words
-pub in-use-book : (n : ℕ) (ts : List ℕ) (p : Piece) → InUse n ts p → bookIn p ≡ bookOf ts
-in-use-book n ts p c = sym (book-is ts (bookIn p) (c .book-rising) (c .book-only) (c .book-all))

@@ -1,5 +1,4 @@
 pub mod Runs
-pub mod BookOf
 pub mod Stopping
 pub mod Learning
 pub mod Demands

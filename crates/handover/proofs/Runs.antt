@@ -1,24 +1,22 @@
--- Learn's run, word by word: while nothing is refused, the book has the words read, and the sheet is theirs.
+-- Learn's run, word by word: while nothing is refused, book and sheet are those of the words read.
 use mathlib.Core.Path.{_≡_, refl, sym, ap, ap₂, _∙_, subst}
-use mathlib.Core.Logic.{_⊎_, inl, inr}
 use mathlib.Core.Bool.{Bool, true, false}
-use mathlib.Core.List.{List, [], _∷_, _++_, List·Memᴰ as Mem, List·Memᴰ·head as here, List·Memᴰ·tail as there, List·Memᴰ·cases-cons, List·Memᴰ·append-cases, List·Memᴰ·eq-of-singleton, Memᴰ·append-left, Memᴰ·append-right, Memᴰ·cast}
+use mathlib.Core.List.{List, [], _∷_, _++_, List·Memᴰ as Mem, List·Memᴰ·head as here, List·Memᴰ·tail as there}
 use Prim.Native.Nat.{ℕ, _+_, _≤_}
 use native.Mathlib.Omega.{arith}
 use lib.ListN.{length}
 use borrow.Author.Tests.{eq-eqb, le-ltb}
-use Rattle.table.specs.Lists.{insert, increasing}
+use Rattle.table.specs.Lists.{increasing}
 use Rattle.table.specs.Surgery.{oneMoreIf}
-use Rattle.table.proofs.Counting.{has-e}
-use Rattle.table.proofs.Inserting.{insert-e, insert-new, insert-old}
 use Rattle.panel.specs.Transitions.{state, next, validTransition}
-use Rattle.prime.specs.Books.{goodBook, booked}
 use Rattle.prime.specs.Sheets.{sheetOf, applySheet, takeSheet, freshSheet, struckCount, addedCount}
-use Rattle.prime.proofs.Books.{book-e, one-word}
 use Rattle.prime.proofs.Apply.{Booked, reproduces}
-use Rattle.prime.proofs.Laws.{sheetOf-good, sheetOf-members, take-sheetOf, take-good, fresh-sheetOf}
+use Rattle.prime.proofs.Laws.{sheetOf-good, take-sheetOf, take-good, fresh-sheetOf}
 use Rattle.heirs.proofs.Counts.{counts-balance}
-use Rattle.book.proofs.Finding.{good-insert}
+use Rattle.book.specs.Books.{goodBook, told, against, withWord, bookOf}
+use Rattle.book.proofs.Books.{book-e, one-word}
+use Rattle.book.proofs.Telling.{with-good}
+use Rattle.book.proofs.BookOf.{book-from, book-to, book-none, book-with, book-more, book-repeat, book-sheet}
 use Rattle.sheet.proofs.Fresh.{fresh-length}
 use Rattle.calls.proofs.Codes.{size-of}
 use Rattle.learning.specs.Learn.{Run, going, refused, choose, learnWords, learnStart, reproduced, learnEnd, learnRun}
@@ -27,8 +25,7 @@ use Rattle.learning.proofs.Ways.{Opening, two, nine-at-once, opened, Way, six, 
 -- the words ts have been read: book b, sheet s, sums x and y
 pub record Read (n : ℕ) (ts b s : List ℕ) (x y : ℕ) : Type 0 where
   pub small : n ≤ 10
-  pub into : (t : ℕ) → Mem t b → Mem t ts
-  pub all-in : (t : ℕ) → Mem t ts → Mem t b
+  pub is-book : b ≡ bookOf ts
   pub good : goodBook n b ≡ true
   pub is-sheet : s ≡ sheetOf n ts
   pub counts : length s + x ≡ n + y
@@ -38,81 +35,60 @@ abbrev pub After : ℕ → List ℕ → Run → Type 0
 After n ts (refused c p) = (1 ≤ c) × (c ≤ 9)
 After n ts (going b s x y) = Read n ts b s x y
 
--- the words read are valid, and no state has two successors
+-- the words read are those of the book
+pub read-in : (n : ℕ) (ts b s : List ℕ) (x y : ℕ) → Read n ts b s x y → (t : ℕ) → Mem t ts → Mem t b
+read-in n ts b s x y l t m = subst (λ (z : List ℕ). Mem t z) (sym (l .is-book)) (book-to ts t m)
+
+-- they are valid, and no state has two successors
 pub read-booked : (n : ℕ) (ts b s : List ℕ) (x y : ℕ) → Read n ts b s x y → Booked n ts
 read-booked n ts b s x y l =
     let g = book-e n b (l .good) in
+    let into = read-in n ts b s x y l in
     record {
-      state-lt = λ t m. g .valid t (l .all-in t m) .state-lt;
-      next-lt = λ t m. g .valid t (l .all-in t m) .next-lt;
-      one-next = λ t u m k e. ap next (one-word b (g .rising) t u (l .all-in t m) (l .all-in u k) e);
+      state-lt = λ t m. g .valid t (into t m) .state-lt;
+      next-lt = λ t m. g .valid t (into t m) .next-lt;
+      one-next = λ t u m k e. ap next (one-word b (g .rising) t u (into t m) (into u k) e);
     }
 
 -- ---- one word
 
+-- where the book of a list is that of another, so is the sheet
+pub same-sheet : (n : ℕ) → n ≤ 10 → (ts us : List ℕ) → bookOf ts ≡ bookOf us → sheetOf n ts ≡ sheetOf n us
+same-sheet n small ts us e = sym (book-sheet n small ts) ∙ ap (sheetOf n) e ∙ book-sheet n small us
+
 module _ (n t : ℕ) (ts b s : List ℕ) (x y : ℕ) (l : Read n ts b s x y) where
-  snoc : (u : ℕ) → Mem u ts ⊎ Mem u (t ∷ []) → (u ≡ t) ⊎ Mem u ts
-  snoc u (inl m) = inr m
-  snoc u (inr m) = inl (List·Memᴰ·eq-of-singleton m)
-
-  from-snoc : (u : ℕ) → Mem u (ts ++ t ∷ []) → (u ≡ t) ⊎ Mem u ts
-  from-snoc u m = snoc u (List·Memᴰ·append-cases ts m)
-
-  to-snoc : (u : ℕ) → (u ≡ t) ⊎ Mem u ts → Mem u (ts ++ t ∷ [])
-  to-snoc u (inl e) = Memᴰ·append-right ts (here e)
-  to-snoc u (inr m) = Memᴰ·append-left (t ∷ []) m
-
-  -- a repeat leaves what it finds
-  pub again : Mem t b → Read n (ts ++ t ∷ []) b s x y
-  again m = record {
+  -- a word that was told leaves what it finds
+  pub again : told t b ≡ true → Read n (ts ++ t ∷ []) b s x y
+  again e = record {
     small = l .small;
-    into = λ u q. Memᴰ·append-left (t ∷ []) (l .into u q);
-    all-in = λ u q. l .all-in u (old u (from-snoc u q));
+    is-book = l .is-book ∙ sym stays;
     good = l .good;
-    is-sheet = l .is-sheet ∙ sheetOf-members n (l .small) ts (ts ++ t ∷ []) (λ u q. Memᴰ·append-left (t ∷ []) q) (λ u q. old u (from-snoc u q));
+    is-sheet = l .is-sheet ∙ same-sheet n (l .small) ts (ts ++ t ∷ []) (sym stays);
     counts = l .counts;
   }
     where
-      old : (u : ℕ) → (u ≡ t) ⊎ Mem u ts → Mem u ts
-      old u (inl e) = Memᴰ·cast e (l .into t m)
-      old u (inr q) = q
+      stays : bookOf (ts ++ t ∷ []) ≡ bookOf ts
+      stays = book-repeat t ts (ap (told t) (sym (l .is-book)) ∙ e)
 
   abbrev new : List ℕ
   new = takeSheet n s t
 
-  new-sheet : takeSheet n s t ≡ sheetOf n (ts ++ t ∷ [])
-  new-sheet =
-      ap (λ (z : List ℕ). takeSheet n z t) (l .is-sheet)
-      ∙ take-sheetOf n (l .small) ts t
-      ∙ sheetOf-members n (l .small) (t ∷ ts) (ts ++ t ∷ []) (λ u m. to-snoc u (List·Memᴰ·cases-cons m)) (λ u m. back u (from-snoc u m))
-    where
-      back : (u : ℕ) → (u ≡ t) ⊎ Mem u ts → Mem u (t ∷ ts)
-      back u (inl e) = here e
-      back u (inr m) = there m
-
-  -- a word of a new state is taken
-  pub one-more : validTransition n t ≡ true → booked t b ≡ false → Read n (ts ++ t ∷ []) (insert t b) new (x + struckCount s new) (y + addedCount s new)
+  -- a word that is not against the book is taken
+  pub one-more : validTransition n t ≡ true → against t b ≡ false → Read n (ts ++ t ∷ []) (withWord t b) new (x + struckCount s new) (y + addedCount s new)
   one-more ok free = record {
     small = l .small;
-    into = λ u m. to-snoc u (older u (insert-e t b u m));
-    all-in = λ u m. newer u (from-snoc u m);
-    good = good-insert n t b (l .good) ok free;
-    is-sheet = new-sheet;
+    is-book = ap (withWord t) (l .is-book) ∙ book-more t ts;
+    good = with-good n t b (l .good) ok free;
+    is-sheet =
+        ap (λ (z : List ℕ). takeSheet n z t) (l .is-sheet) ∙ take-sheetOf n (l .small) ts t
+        ∙ same-sheet n (l .small) (t ∷ ts) (ts ++ t ∷ []) (sym (book-with t ts) ∙ book-more t ts);
     counts = omega (arith, l .counts, counts-balance s new (ap increasing (l .is-sheet) ∙ sheetOf-good n (l .small) ts .sorted) (take-good n (l .small) s t .sorted));
   }
-    where
-      older : (u : ℕ) → (u ≡ t) ⊎ Mem u b → (u ≡ t) ⊎ Mem u ts
-      older u (inl e) = inl e
-      older u (inr m) = inr (l .into u m)
-
-      newer : (u : ℕ) → (u ≡ t) ⊎ Mem u ts → Mem u (insert t b)
-      newer u (inl e) = Memᴰ·cast e (insert-new t b)
-      newer u (inr m) = insert-old t (l .all-in u m)
 
   -- on every way through the word
   word : (bookRoom sheetRoom k : ℕ) (r : Run) → Way n bookRoom sheetRoom k t b s x y r → After n (ts ++ t ∷ []) r
   word bookRoom sheetRoom k _ (six e) = (omega arith, omega arith)
-  word bookRoom sheetRoom k _ (passed-over v e) = again (has-e t b e)
+  word bookRoom sheetRoom k _ (passed-over v e) = again e
   word bookRoom sheetRoom k _ (seven v e f) = (omega arith, omega arith)
   word bookRoom sheetRoom k _ (eight v e f) = (omega arith, omega arith)
   word bookRoom sheetRoom k _ (nine v e f g) = (omega arith, omega arith)
@@ -124,8 +100,7 @@ pub start-read : (n : ℕ) → n ≤ 10 → Read n [] [] (freshSheet n) 0 0
 unfolding goodBook
 start-read n l = record {
   small = l;
-  into = λ t m. m;
-  all-in = λ t m. m;
+  is-book = sym book-none;
   good = refl;
   is-sheet = fresh-sheetOf n l;
   counts = omega (arith, fresh-length n);
@@ -157,7 +132,7 @@ module _ (n bookRoom sheetRoom : ℕ) where
       (le-ltb (reproduced n s b) (length b) (omega (
         arith,
         reproduced-all s b (λ t m.
-            ap (λ (z : List ℕ). applySheet n z (state t)) (f .is-sheet) ∙ reproduces n (f .small) ts (read-booked n ts b s x y f) t (f .into t m)),
+            ap (λ (z : List ℕ). applySheet n z (state t)) (f .is-sheet) ∙ reproduces n (f .small) ts (read-booked n ts b s x y f) t (book-from ts t (subst (λ (z : List ℕ). Mem t z) (f .is-book) m))),
       )))
 
   -- so the run is that of the words alone

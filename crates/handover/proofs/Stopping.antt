@@ -1,16 +1,17 @@
 -- The definitions of learning leave no choice: what is learnable is not refused, and a refusal has one code and one place.
 use mathlib.Core.Path.{_≡_, refl, sym, ap, _∙_, subst}
-use mathlib.Core.Bool.{false≢true}
-use mathlib.Core.List.{List, [], _∷_, _++_, List·Memᴰ as Mem, List·Memᴰ·head as here, Memᴰ·append-left, Memᴰ·append-right, append-assoc, head-eq-of-cons-eq, tail-eq-of-cons-eq}
+use mathlib.Core.Bool.{true, false, false≢true}
+use mathlib.Core.List.{List, [], _∷_, _++_, List·Memᴰ·head as here, Memᴰ·append-left, Memᴰ·append-right, append-assoc, head-eq-of-cons-eq, tail-eq-of-cons-eq}
 use Prim.Native.Nat.{ℕ, _≤_}
 use native.Mathlib.Omega.{arith}
 use lib.ListN.{length}
-use Rattle.panel.specs.Transitions.{state, next}
 use Rattle.prime.proofs.Laws.{fresh-sheetOf}
+use Rattle.book.specs.Books.{against, bookOf}
+use Rattle.book.proofs.Telling.{against-e, against-i}
+use Rattle.book.proofs.BookOf.{book-within}
 use Rattle.sheet.proofs.Fresh.{fresh-length}
 use Rattle.calls.proofs.Codes.{size-of}
-use Rattle.handover.specs.Learning.{bookOf, Learnable, Before, Agrees, Stops, invalid, contradicted, book-full, sheet-full, LearnRefused, no-panel, no-room, at-word}
-use Rattle.handover.proofs.BookOf.{book-more}
+use Rattle.handover.specs.Learning.{Learnable, Before, Agrees, Stops, invalid, contradicted, book-full, sheet-full, LearnRefused, no-panel, no-room, at-word}
 
 -- ---- words of a list
 
@@ -34,20 +35,26 @@ compare (p ∷ ps) (q ∷ qs) w v rest others e = go (compare ps qs w v rest oth
     go (first m k) = first m (ap (λ (z : List ℕ). q ∷ z) k ∙ ap (λ (z : ℕ). z ∷ (ps ++ w ∷ m)) (sym h))
     go (second m k) = second m (ap (λ (z : List ℕ). p ∷ z) k ∙ ap (λ (z : ℕ). z ∷ (qs ++ v ∷ m)) h)
 
+-- a word that is against the words before it is against the whole list
+against-more : (ps : List ℕ) (w : ℕ) (m : List ℕ) → against w ps ≡ true → against w (ps ++ w ∷ m) ≡ false → ⊥
+against-more ps w m e f =
+    let k = against-e w ps e in
+    false≢true (sym f ∙ against-i w (ps ++ w ∷ m) (k .0) (Memᴰ·append-left (w ∷ m) (k .1)) (k .2))
+
 module _ (n bookRoom sheetRoom : ℕ) where
   -- ---- what is refused is not learnable
 
   -- a refused word stops learning, whatever follows it
   stops-all : (ps : List ℕ) (w : ℕ) {c : ℕ} → Stops n ps w bookRoom sheetRoom c → (m : List ℕ) → Learnable n (ps ++ w ∷ m) bookRoom sheetRoom → ⊥
   stops-all ps w (invalid e) m l = false≢true (sym e ∙ l .valid w (Memᴰ·append-right ps (here refl)))
-  stops-all ps w (contradicted u v k e f) m l = f (l .one-next u w (Memᴰ·append-left (w ∷ m) k) (Memᴰ·append-right ps (here refl)) e)
+  stops-all ps w (contradicted v e) m l = against-more ps w m e (l .one-next w (Memᴰ·append-right ps (here refl)))
   stops-all ps w (book-full a g) m l =
       omega (
         arith,
         g,
         l .book-fits,
         ap (λ (z : List ℕ). length (bookOf z)) (append-assoc ps (w ∷ []) m),
-        book-more (ps ++ w ∷ []) ((ps ++ w ∷ []) ++ m) (λ t k. Memᴰ·append-left m k),
+        book-within (ps ++ w ∷ []) ((ps ++ w ∷ []) ++ m) (λ t k. Memᴰ·append-left m k),
       )
   stops-all ps w (sheet-full a h g) m l = omega (arith, g, l .sheets-fit (ps ++ w ∷ []) m (sym (append-assoc ps (w ∷ []) m)))
 
@@ -63,25 +70,25 @@ module _ (n bookRoom sheetRoom : ℕ) where
   -- ---- one code and one place
 
   -- a word that contradicts an earlier one does not agree
-  against : (ps : List ℕ) (w u : ℕ) → Mem u ps → state u ≡ state w → (next u ≡ next w → ⊥) → Agrees n ps w → ⊥
-  against ps w u k e f a = f (a .one-next u w (Memᴰ·append-left (w ∷ []) k) (Memᴰ·append-right ps (here refl)) e)
+  disagrees : (ps : List ℕ) (w : ℕ) → against w ps ≡ true → Agrees n ps w → ⊥
+  disagrees ps w e a = against-more ps w [] e (a .one-next w (Memᴰ·append-right ps (here refl)))
 
   -- a word is refused by one code
   stops-once : (ps : List ℕ) (w : ℕ) {c d : ℕ} → Stops n ps w bookRoom sheetRoom c → Stops n ps w bookRoom sheetRoom d → c ≡ d
   stops-once ps w (invalid e) (invalid f) = refl
-  stops-once ps w (invalid e) (contradicted u v k i j) = absurd (false≢true (sym e ∙ v))
+  stops-once ps w (invalid e) (contradicted v i) = absurd (false≢true (sym e ∙ v))
   stops-once ps w (invalid e) (book-full a g) = absurd (false≢true (sym e ∙ a .valid))
   stops-once ps w (invalid e) (sheet-full a h g) = absurd (false≢true (sym e ∙ a .valid))
-  stops-once ps w (contradicted u v k i j) (invalid e) = absurd (false≢true (sym e ∙ v))
-  stops-once ps w (contradicted u v k i j) (contradicted u₁ v₁ k₁ i₁ j₁) = refl
-  stops-once ps w (contradicted u v k i j) (book-full a g) = absurd (against ps w u k i j a)
-  stops-once ps w (contradicted u v k i j) (sheet-full a h g) = absurd (against ps w u k i j a)
+  stops-once ps w (contradicted v i) (invalid e) = absurd (false≢true (sym e ∙ v))
+  stops-once ps w (contradicted v e) (contradicted u f) = refl
+  stops-once ps w (contradicted v i) (book-full a g) = absurd (disagrees ps w i a)
+  stops-once ps w (contradicted v i) (sheet-full a h g) = absurd (disagrees ps w i a)
   stops-once ps w (book-full a g) (invalid e) = absurd (false≢true (sym e ∙ a .valid))
-  stops-once ps w (book-full a g) (contradicted u v k i j) = absurd (against ps w u k i j a)
+  stops-once ps w (book-full a g) (contradicted v i) = absurd (disagrees ps w i a)
   stops-once ps w (book-full a g) (book-full b f) = refl
   stops-once ps w (book-full a g) (sheet-full b h f) = absurd (omega (arith, g, h))
   stops-once ps w (sheet-full a h g) (invalid e) = absurd (false≢true (sym e ∙ a .valid))
-  stops-once ps w (sheet-full a h g) (contradicted u v k i j) = absurd (against ps w u k i j a)
+  stops-once ps w (sheet-full a h g) (contradicted v i) = absurd (disagrees ps w i a)
   stops-once ps w (sheet-full a h g) (book-full b f) = absurd (omega (arith, f, h))
   stops-once ps w (sheet-full a h g) (sheet-full b i f) = refl
 

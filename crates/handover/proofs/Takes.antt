@@ -1,31 +1,29 @@
 -- Demand 2 over the contract of take and nothing else: if the sheet was that of the book, the new one is that of the new book.
 use mathlib.Core.Path.{_≡_, refl, sym, ap, _∙_, subst}
-use mathlib.Core.Logic.{_⊎_, inl, inr}
-use mathlib.Core.Bool.{Bool, true, false, not, _&&_, _||_, false≢true}
-use mathlib.Core.List.{List, _∷_, List·Memᴰ as Mem, List·Memᴰ·head as here, List·Memᴰ·tail as there, List·Memᴰ·cases-cons, Memᴰ·cast}
-use Prim.Native.Nat.{ℕ, zero, suc, _+_, _^_, _≤_}
+use mathlib.Core.Bool.{Bool, true, false, not, _&&_, _||_}
+use mathlib.Core.List.{List, _∷_, List·Memᴰ as Mem}
+use Prim.Native.Nat.{ℕ, zero, suc, _^_, _≤_}
 use native.Mathlib.Omega.{arith}
 use lib.Dec.{ltb}
 use lib.ListN.{length, take}
-use lib.Seq.{length-take-le}
-use Rattle.table.specs.Lists.{has, insert}
-use Rattle.table.proofs.Counting.{has-e, has-i}
-use Rattle.table.proofs.Inserting.{insert-e, insert-new, insert-old, insert-length, insert-increasing}
 use Rattle.panel.specs.Masks.{panelSize}
 use Rattle.panel.specs.Transitions.{transitionWord}
-use Rattle.prime.specs.Books.{goodBook, booked}
 use Rattle.prime.specs.Sheets.{sheetOf, takeSheet, goodSheet, struckCount, addedCount}
-use Rattle.prime.proofs.Books.{book-e, book-increasing}
 use Rattle.prime.proofs.Laws.{take-sheetOf, sheetOf-members}
+use Rattle.book.specs.Books.{goodBook, told, against, withWord, bookOf}
+use Rattle.book.proofs.Books.{book-e, book-increasing}
+use Rattle.book.proofs.Telling.{with-told}
+use Rattle.book.proofs.BookOf.{book-members, book-self, book-with, book-sheet}
 use Rattle.answers.specs.Answers.{refuse, plain, done, answerIf}
 use Rattle.answers.specs.declared.Answer.{Answer}
 use Rattle.answers.proofs.Laws.{answer-done, words-done, answer-refused, words-refused, refuse-both}
-use Rattle.calls.specs.Take.{lentCode, entryCode, takeCode, takeAnswer, takeBook, takeWords, Taken}
-use Rattle.calls.proofs.Codes.{Lent, size-of, booking-none}
+use Rattle.calls.specs.Take.{entryCode, takeCode, takeAnswer, takeBook, takeWords, Taken}
+use Rattle.calls.proofs.Codes.{Lent, size-of}
 use Rattle.calls.proofs.Ends.{entry-known}
 use Rattle.calls.proofs.Ladder.{take-asks}
 use Rattle.joining.specs.Joining.{Piece, piece, bookIn, sheetIn}
 use Rattle.handover.specs.Demands.{InUse, Complete}
+use Rattle.handover.proofs.Runs.{same-sheet}
 use Rattle.handover.proofs.Demands.{in-use-of, complete}
 
 -- book and sheet after a take, with the counts that it answered
@@ -35,21 +33,20 @@ after book sheet r = piece book (r .«book_count») sheet (r .«sheet_count»)
 -- a list with the same members has the same book and sheet
 pub in-use-members : (n : ℕ) → n ≤ 10 → (ts us : List ℕ) (p : Piece) → ((t : ℕ) → Mem t ts → Mem t us) → ((t : ℕ) → Mem t us → Mem t ts) → InUse n ts p → InUse n us p
 in-use-members n small ts us p f g c =
-    in-use-of n small us (bookIn p) (sheetIn p) p (c .book-in) refl (c .sheet-in) refl (c .book-rising)
-    (λ t m. f t (c .book-only t m)) (λ t m. c .book-all t (g t m)) (c .is-sheet ∙ sheetOf-members n small ts us f g)
+    in-use-of n small us p (c .book-in) (c .is-book ∙ book-members ts us f g) (c .sheet-in) (c .is-sheet ∙ sheetOf-members n small ts us f g)
 
 -- where take's ladder ends with 1, the panel's size was right and the transition was found in the book
-told : (a b c d e f g h k : Bool) → refuse a 2 (refuse b 3 (refuse c 4 (refuse d 5 (refuse e 6 (refuse f 1 (refuse g 7 (refuse h 8 (refuse k 9 0)))))))) ≡ 1 → (a ≡ false) × (f ≡ true)
-told true b c d e f g h k q = absurd (omega (arith, q))
-told false true c d e f g h k q = absurd (omega (arith, q))
-told false false true d e f g h k q = absurd (omega (arith, q))
-told false false false true e f g h k q = absurd (omega (arith, q))
-told false false false false true f g h k q = absurd (omega (arith, q))
-told false false false false false true g h k q = (refl, refl)
-told false false false false false false true h k q = absurd (omega (arith, q))
-told false false false false false false false true k q = absurd (omega (arith, q))
-told false false false false false false false false true q = absurd (omega (arith, q))
-told false false false false false false false false false q = absurd (omega (arith, q))
+ends-with-1 : (a b c d e f g h k : Bool) → refuse a 2 (refuse b 3 (refuse c 4 (refuse d 5 (refuse e 6 (refuse f 1 (refuse g 7 (refuse h 8 (refuse k 9 0)))))))) ≡ 1 → (a ≡ false) × (f ≡ true)
+ends-with-1 true b c d e f g h k q = absurd (omega (arith, q))
+ends-with-1 false true c d e f g h k q = absurd (omega (arith, q))
+ends-with-1 false false true d e f g h k q = absurd (omega (arith, q))
+ends-with-1 false false false true e f g h k q = absurd (omega (arith, q))
+ends-with-1 false false false false true f g h k q = absurd (omega (arith, q))
+ends-with-1 false false false false false true g h k q = (refl, refl)
+ends-with-1 false false false false false false true h k q = absurd (omega (arith, q))
+ends-with-1 false false false false false false false true k q = absurd (omega (arith, q))
+ends-with-1 false false false false false false false false true q = absurd (omega (arith, q))
+ends-with-1 false false false false false false false false false q = absurd (omega (arith, q))
 
 module _ (spoilt : Bool) (n : ℕ) (book : List ℕ) (books : ℕ) (sheet : List ℕ) (sheets i j : ℕ) where
   abbrev code : ℕ
@@ -69,35 +66,26 @@ module _ (spoilt : Bool) (n : ℕ) (book : List ℕ) (books : ℕ) (sheet : List
   unfolding takeCode
   known z = entry-known spoilt n book books sheet sheets i j 0 (sym (refuse-both (entryCode spoilt n book books sheet sheets i j) _ z .0)) refl
 
-  not-booked : code ≡ 0 → has t (bookIn before) ≡ false
-  unfolding takeCode entryCode
-  not-booked z =
-      booking-none t (length book) (bookIn before)
-      (refuse-both (lentCode spoilt n book books sheet sheets i j) _ (refuse-both (entryCode spoilt n book books sheet sheets i j) _ z .0) .1) .0
-
   module _ (book′ sheet′ : List ℕ) (r : Answer) (h : Taken spoilt n book books sheet sheets i j book′ sheet′ r) where
     code-is : r .code ≡ code
     unfolding takeAnswer
     code-is = ap (λ (a : Answer). a .code) (h .answer) ∙ picked code
       where
-        picked : (c : ℕ) → answerIf c (done (books + 1) (length new) (struckCount (sheetIn before) new) (addedCount (sheetIn before) new)) (plain c 0 books sheets) .code ≡ c
+        picked : (c : ℕ) → answerIf c (done (length (withWord t (bookIn before))) (length new) (struckCount (sheetIn before) new) (addedCount (sheetIn before) new)) (plain c 0 books sheets) .code ≡ c
         picked zero = refl
         picked (suc c) = refl
 
-    -- done: whatever list has the members of the old book, the new book and sheet are the complete result for it and the transition
-    taken-complete : r .code ≡ 0 → (ts : List ℕ) → ((u : ℕ) → Mem u (bookIn before) → Mem u ts) → ((u : ℕ) → Mem u ts → Mem u (bookIn before)) → sheetIn before ≡ sheetOf n ts
-        → Complete n (t ∷ ts) (after book′ sheet′ r)
+    -- done: where book and sheet were those of ts, the new ones are the complete result for ts and the transition
+    taken-complete : r .code ≡ 0 → (ts : List ℕ) → bookIn before ≡ bookOf ts → sheetIn before ≡ sheetOf n ts → Complete n (t ∷ ts) (after book′ sheet′ r)
     unfolding takeAnswer takeBook takeWords
-    taken-complete z ts only each is =
-        complete n (k .small) (t ∷ ts) (insert t (bookIn before)) new (after book′ sheet′ r) (length book) (length sheet)
+    taken-complete z ts is-book is-sheet =
+        complete n (k .small) (t ∷ ts) (withWord t (bookIn before)) new (after book′ sheet′ r) (length book) (length sheet)
         (h .book-words ∙ words-done code _ _ c)
-        (ap (λ (a : Answer). a .«book_count») answers ∙ omega (arith, insert-length t (bookIn before), length-take-le books book (k .books-in)))
+        (ap (λ (a : Answer). a .«book_count») answers)
         (h .sheet-words ∙ words-done code _ _ c)
         (ap (λ (a : Answer). a .«sheet_count») answers)
-        (insert-increasing t (bookIn before) (book-increasing (bookIn before) (book-e n (bookIn before) (k .good-book) .rising)) (λ m. false≢true (sym (not-booked c) ∙ has-i t (bookIn before) m)))
-        (λ u m. older u (insert-e t (bookIn before) u m))
-        (λ u m. newer u (List·Memᴰ·cases-cons m))
-        (ap (λ (z : List ℕ). takeSheet n z t) is ∙ take-sheetOf n (k .small) ts t)
+        (ap (withWord t) is-book ∙ book-with t ts)
+        (ap (λ (z : List ℕ). takeSheet n z t) is-sheet ∙ take-sheetOf n (k .small) ts t)
       where
         c : code ≡ 0
         c = sym code-is ∙ z
@@ -105,20 +93,12 @@ module _ (spoilt : Bool) (n : ℕ) (book : List ℕ) (books : ℕ) (sheet : List
         k : Lent n book books sheet sheets i j
         k = known c
 
-        answers : r ≡ done (books + 1) (length new) (struckCount (sheetIn before) new) (addedCount (sheetIn before) new)
+        answers : r ≡ done (length (withWord t (bookIn before))) (length new) (struckCount (sheetIn before) new) (addedCount (sheetIn before) new)
         answers = h .answer ∙ answer-done code _ _ c
-
-        older : (u : ℕ) → (u ≡ t) ⊎ Mem u (bookIn before) → Mem u (t ∷ ts)
-        older u (inl e) = here e
-        older u (inr m) = there (only u m)
-
-        newer : (u : ℕ) → (u ≡ t) ⊎ Mem u ts → Mem u (insert t (bookIn before))
-        newer u (inl e) = Memᴰ·cast e (insert-new t (bookIn before))
-        newer u (inr m) = insert-old t (each u m)
 
     -- done: from book and sheet of ts to the complete result for ts and the transition
     pub take-complete : (ts : List ℕ) → InUse n ts before → r .code ≡ 0 → Complete n (t ∷ ts) (after book′ sheet′ r)
-    take-complete ts c z = taken-complete z ts (c .book-only) (c .book-all) (c .is-sheet)
+    take-complete ts c z = taken-complete z ts (c .is-book) (c .is-sheet)
 
     -- refused, or told of a transition booked before: all words and both counts stay
     pub take-kept : (r .code ≡ 0 → ⊥) → after book′ sheet′ r ≡ before
@@ -137,31 +117,28 @@ module _ (spoilt : Bool) (n : ℕ) (book : List ℕ) (books : ℕ) (sheet : List
         er : r ≡ plain code 0 books sheets
         er = h .answer ∙ answer-refused code _ _ g
 
-    -- told: the panel's size is right, and the transition is one of ts
-    told-old : (ts : List ℕ) → InUse n ts before → r .code ≡ 1 → (n ≤ 10) × ((u : ℕ) → Mem u (t ∷ ts) → Mem u ts)
-    told-old ts c e = (size-of n (sized (panelSize n) (k .0)) .1, λ u m. old u (List·Memᴰ·cases-cons m))
+    -- told: the panel's size is right, and the book tells of the transition
+    told-old : r .code ≡ 1 → (n ≤ 10) × (told t (bookIn before) ≡ true)
+    told-old e = (size-of n (sized (panelSize n) (k .0)) .1, k .1)
       where
-        k : (not (panelSize n) ≡ false) × (has t (bookIn before) ≡ true)
+        k : (not (panelSize n) ≡ false) × (told t (bookIn before) ≡ true)
         k =
-            told (not (panelSize n)) (spoilt || (ltb (length book) books || ltb (length sheet) sheets)) (not (goodBook n (take books book)))
-            (not (goodSheet n (take sheets sheet))) (not (ltb i (2 ^ n) && ltb j (2 ^ n))) (has t (take books book))
-            (booked t (take books book)) (ltb (length book) (length (take books book) + 1)) (ltb (length sheet) (length new))
+            ends-with-1 (not (panelSize n)) (spoilt || (ltb (length book) books || ltb (length sheet) sheets)) (not (goodBook n (take books book)))
+            (not (goodSheet n (take sheets sheet))) (not (ltb i (2 ^ n) && ltb j (2 ^ n))) (told t (take books book))
+            (against t (take books book)) (ltb (length book) (length (withWord t (take books book)))) (ltb (length sheet) (length new))
             (sym (take-asks spoilt n book books sheet sheets i j) ∙ sym code-is ∙ e)
 
         sized : (b : Bool) → not b ≡ false → b ≡ true
         sized true q = refl
         sized false q = sym q
 
-        old : (u : ℕ) → (u ≡ t) ⊎ Mem u ts → Mem u ts
-        old u (inl q) = Memᴰ·cast q (c .book-only t (has-e t (bookIn before) (k .1)))
-        old u (inr m) = m
-
     -- told: nothing changes, and what is in use is book and sheet of ts and the transition too. Words beyond the counts are 0 where they were before: code 1 clears nothing
     pub take-told : (ts : List ℕ) → InUse n ts before → r .code ≡ 1 → (after book′ sheet′ r ≡ before) × InUse n (t ∷ ts) (after book′ sheet′ r)
     take-told ts c e =
-        let q = told-old ts c e in
+        let q = told-old e in
         let same = take-kept (λ z. omega (arith, z, e)) in
-        (same, subst (InUse n (t ∷ ts)) (sym same) (in-use-members n (q .0) ts (t ∷ ts) before (λ u m. there m) (q .1) c))
+        let stays : bookOf ts ≡ bookOf (t ∷ ts) = sym (with-told t (bookOf ts) (ap (told t) (sym (c .is-book)) ∙ q .1)) ∙ book-with t ts in
+        (same, subst (InUse n (t ∷ ts)) (sym same) (in-use-of n (q .0) (t ∷ ts) before (c .book-in) (c .is-book ∙ stays) (c .sheet-in) (c .is-sheet ∙ same-sheet n (q .0) ts (t ∷ ts) stays)))
 
     -- 01's own sentence, whatever take answers: if the sheet was that of the book, the new one is that of the new book
     pub sheet-of-book : sheetIn before ≡ sheetOf n (bookIn before) → sheetIn (after book′ sheet′ r) ≡ sheetOf n (bookIn (after book′ sheet′ r))
@@ -169,6 +146,8 @@ module _ (spoilt : Bool) (n : ℕ) (book : List ℕ) (books : ℕ) (sheet : List
       where
         go : (c : ℕ) → r .code ≡ c → sheetIn (after book′ sheet′ r) ≡ sheetOf n (bookIn (after book′ sheet′ r))
         go zero z =
-            let k = taken-complete z (bookIn before) (λ u m. m) (λ u m. m) e .in-use in
-            k .is-sheet ∙ sheetOf-members n (known (sym code-is ∙ z) .small) (t ∷ bookIn before) (bookIn (after book′ sheet′ r)) (k .book-all) (k .book-only)
+            let l = known (sym code-is ∙ z) in
+            let own = sym (book-self (bookIn before) (book-increasing (bookIn before) (book-e n (bookIn before) (l .good-book) .rising))) in
+            let k = taken-complete z (bookIn before) own e .in-use in
+            k .is-sheet ∙ sym (book-sheet n (l .small) (t ∷ bookIn before)) ∙ ap (sheetOf n) (sym (k .is-book))
         go (suc c) q = subst (λ (p : Piece). sheetIn p ≡ sheetOf n (bookIn p)) (sym (take-kept (λ z. omega (arith, z, q)))) e

@@ -8,6 +8,7 @@ use lib.ListN.{length, drop, replicate}
 use Rattle.table.specs.Lists.{increasing}
 use Rattle.prime.specs.Sheets.{sheetOf}
 use Rattle.prime.specs.Primes.{Prime}
+use Rattle.book.specs.Books.{bookOf}
 use Rattle.answers.specs.declared.Answer.{Answer}
 use Rattle.learning.specs.Learn.{Learned}
 use Rattle.joining.specs.Joining.{Piece, piece, bookIn, sheetIn, Joined}
@@ -41,6 +42,7 @@ ZeroFrom count s = drop count s ≡ replicate (length s - count) 0
 -- what is in use in p is the book and the sheet of the words ts: the book lists them, each once and in order; the sheet lists all their prime rules and nothing else
 pub record InUse (n : ℕ) (ts : List ℕ) (p : Piece) : Type 0 where
   pub book-in : p .book-count ≤ length (p .book-words)
+  pub is-book : bookIn p ≡ bookOf ts
   pub book-rising : increasing (bookIn p) ≡ true
   pub book-only : (t : ℕ) → Mem t (bookIn p) → Mem t ts
   pub book-all : (t : ℕ) → Mem t ts → Mem t (bookIn p)

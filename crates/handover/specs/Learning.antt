@@ -4,19 +4,10 @@ use mathlib.Core.Bool.{true, false}
 use mathlib.Core.List.{List, [], _∷_, _++_, List·Memᴰ as Mem}
 use Prim.Native.Nat.{ℕ, _≤_, _<_}
 use lib.ListN.{length}
-use Rattle.table.specs.Lists.{has, pick, insert}
 use Rattle.panel.specs.Masks.{panelSize}
-use Rattle.panel.specs.Transitions.{state, next, validTransition}
+use Rattle.panel.specs.Transitions.{validTransition}
 use Rattle.prime.specs.Sheets.{sheetOf}
-
--- the book of the words: each of them once, in increasing order
-abbrev pub bookOf : List ℕ → List ℕ
-bookOf [] = []
-bookOf (t ∷ ts) = pick (has t ts) (bookOf ts) (insert t (bookOf ts))
-
--- no state is recorded with two different successors
-abbrev pub OneNext : List ℕ → Type 0
-OneNext ts = (t u : ℕ) → Mem t ts → Mem u ts → state t ≡ state u → next t ≡ next u
+use Rattle.book.specs.Books.{against, OneNext, bookOf}
 
 -- nothing stops learning of ts: n is 1 to 10, every word is valid, no state has two successors, the book of the words fits into its slice,
 -- and so does the sheet of the first words, however many, from the fresh sheet of none of them on
@@ -42,8 +33,8 @@ pub record Agrees (n : ℕ) (ps : List ℕ) (w : ℕ) : Type 0 where
 pub data Stops (n : ℕ) (ps : List ℕ) (w bookRoom sheetRoom : ℕ) : ℕ → Type 0 where
   -- it is not I × 1,024 + J with both below 2^n
   invalid : validTransition n w ≡ false → Stops n ps w bookRoom sheetRoom 6
-  -- its state stands before it with another successor
-  contradicted : (u : ℕ) → validTransition n w ≡ true → Mem u ps → state u ≡ state w → (next u ≡ next w → ⊥) → Stops n ps w bookRoom sheetRoom 7
+  -- it is against the words before it: its state stands there with another successor
+  contradicted : validTransition n w ≡ true → against w ps ≡ true → Stops n ps w bookRoom sheetRoom 7
   -- the book of the words up to it needs more words than its slice
   book-full : Agrees n ps w → bookRoom < length (bookOf (ps ++ w ∷ [])) → Stops n ps w bookRoom sheetRoom 8
   -- the sheet of the words up to it has more rules than its slice

@@ -8,9 +8,9 @@ use lib.Seq.{length-take-le}
 use Rattle.table.specs.Surgery.{clearedFrom, Holds}
 use Rattle.table.proofs.Tables.{holds-filled}
 use Rattle.panel.specs.Masks.{panelSize}
-use Rattle.prime.specs.Books.{statesUp}
+use Rattle.book.specs.Books.{statesUp}
 use Rattle.prime.specs.Sheets.{goodSheet}
-use Rattle.prime.proofs.Books.{book-e}
+use Rattle.book.proofs.Books.{book-e}
 use Rattle.answers.specs.Answers.{plain, done}
 use Rattle.answers.specs.declared.Answer.{Answer}
 use Rattle.answers.proofs.Laws.{answer-refused, words-refused, answer-done, words-done}

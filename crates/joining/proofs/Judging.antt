@@ -8,7 +8,7 @@ use lib.ListN.{length}
 use borrow.Author.Tests.{ltb-true, ltb-false, lt-ltb, le-ltb, not-false}
 use Rattle.table.proofs.Basics.{and-l, and-r, and-i}
 use Rattle.panel.specs.Masks.{panelSize}
-use Rattle.prime.specs.Books.{goodBook, clash}
+use Rattle.book.specs.Books.{goodBook, clash}
 use Rattle.prime.specs.Sheets.{goodSheet}
 use Rattle.answers.specs.Answers.{refuse}
 use Rattle.joining.specs.Joining.{Piece, bookIn, sheetIn, exceeds, joinedBook, joinedSheet, piecesCode, joinCode, GoodPiece, GoodPieces, Joinable}

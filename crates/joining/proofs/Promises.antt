@@ -3,7 +3,7 @@ use mathlib.Core.Path.{_≡_, sym, _∙_}
 use mathlib.Core.Bool.{true}
 use mathlib.Core.List.{List}
 use Prim.Native.Nat.{ℕ}
-use Rattle.prime.specs.Books.{goodBook}
+use Rattle.book.specs.Books.{goodBook}
 use Rattle.prime.specs.Sheets.{goodSheet}
 use Rattle.prime.proofs.Least.{good-i}
 use Rattle.prime.proofs.Laws.{join-good}

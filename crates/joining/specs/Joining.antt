@@ -7,8 +7,8 @@ use lib.Dec.{ltb}
 use lib.ListN.{length, take}
 use Rattle.table.specs.Surgery.{filled}
 use Rattle.panel.specs.Masks.{panelSize}
-use Rattle.prime.specs.Books.{goodBook, clash, union}
 use Rattle.prime.specs.Sheets.{goodSheet, joinSheet}
+use Rattle.book.specs.Books.{goodBook, clash, union}
 use Rattle.answers.specs.Answers.{refuse, plain, done, answerIf, wordsIf}
 use Rattle.answers.specs.declared.Answer.{Answer}
 

@@ -4,7 +4,7 @@ ghost use mathlib.Core.Path.{_≡_};
 ghost use mathlib.Core.Bool.{true, _&&_};
 ghost use Prim.Native.Nat.{_≤_};
 ghost use lib.ListN.{length};
-ghost use Rattle.prime.specs.Books.{goodBook, statesUp, union};
+ghost use Rattle.book.specs.Books.{goodBook, statesUp, union};
 ghost use Rattle.prime.specs.Sheets.{goodSheet, joinSheet};
 ghost use Rattle.joining.specs.Joining.{piece, exceeds, piecesCode, joinCode, Fills, Joined};
 
@@ -20,8 +20,8 @@ fn are_good_books(n: u32, a: &[u32], b: &[u32]) -> bool
     requires { ⌜ n ≤ 10 ⌝ }
     ensures { λ r. ⌜ r ≡ (goodBook n (now (a .entry)) && goodBook n (now (b .entry))) ⌝ }
 {
-    if prime::is_good_book(n, a) {
-        prime::is_good_book(n, b)
+    if book::is_good_book(n, a) {
+        book::is_good_book(n, b)
     } else {
         false
     }

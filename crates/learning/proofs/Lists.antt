@@ -11,10 +11,10 @@ use lib.Seq.{drop-cons}
 use Rattle.table.specs.Surgery.{Holds}
 use Rattle.table.proofs.Tables.{over-holds}
 use Rattle.panel.specs.Masks.{panelSize}
-use Rattle.prime.specs.Books.{goodBook}
 use Rattle.prime.specs.Sheets.{goodSheet, freshSheet, sheetOf}
 use Rattle.prime.proofs.Least.{Good, good-i}
 use Rattle.prime.proofs.Laws.{fresh-sheetOf, sheetOf-good}
+use Rattle.book.specs.Books.{goodBook}
 use Rattle.sheet.proofs.Fresh.{fresh-length}
 use Rattle.answers.specs.Answers.{refuse, plain, done}
 use Rattle.answers.specs.declared.Answer.{Answer}

@@ -7,11 +7,10 @@ use native.Mathlib.Omega.{arith}
 use lib.Dec.{ltb}
 use lib.ListN.{length, length-append}
 use borrow.Author.Tests.{ltb-true, ltb-false}
-use Rattle.table.specs.Lists.{has, insert}
 use Rattle.panel.specs.Masks.{panelSize}
 use Rattle.panel.specs.Transitions.{validTransition}
-use Rattle.prime.specs.Books.{booked}
 use Rattle.prime.specs.Sheets.{freshSheet, takeSheet, struckCount, addedCount}
+use Rattle.book.specs.Books.{told, against, withWord}
 use Rattle.learning.specs.Learn.{Run, going, refused, choose, taken, learnStep, learnWords, learnStart}
 
 -- ---- the start
@@ -36,29 +35,29 @@ opening n sheetRoom = go (panelSize n) (ltb sheetRoom n) refl refl
 -- the run after the word t, number k, where book and sheet were b and s, and the sums x and y
 pub data Way (n bookRoom sheetRoom k t : ℕ) (b s : List ℕ) (x y : ℕ) : Run → Type 0 where
   six : validTransition n t ≡ false → Way n bookRoom sheetRoom k t b s x y (refused 6 k)
-  passed-over : validTransition n t ≡ true → has t b ≡ true → Way n bookRoom sheetRoom k t b s x y (going b s x y)
-  seven : validTransition n t ≡ true → has t b ≡ false → booked t b ≡ true → Way n bookRoom sheetRoom k t b s x y (refused 7 k)
-  eight : validTransition n t ≡ true → booked t b ≡ false → bookRoom < length b + 1 → Way n bookRoom sheetRoom k t b s x y (refused 8 k)
-  nine : validTransition n t ≡ true → booked t b ≡ false → length b + 1 ≤ bookRoom → sheetRoom < length (takeSheet n s t)
+  passed-over : validTransition n t ≡ true → told t b ≡ true → Way n bookRoom sheetRoom k t b s x y (going b s x y)
+  seven : validTransition n t ≡ true → told t b ≡ false → against t b ≡ true → Way n bookRoom sheetRoom k t b s x y (refused 7 k)
+  eight : validTransition n t ≡ true → against t b ≡ false → bookRoom < length (withWord t b) → Way n bookRoom sheetRoom k t b s x y (refused 8 k)
+  nine : validTransition n t ≡ true → against t b ≡ false → length (withWord t b) ≤ bookRoom → sheetRoom < length (takeSheet n s t)
       → Way n bookRoom sheetRoom k t b s x y (refused 9 k)
-  taken-up : validTransition n t ≡ true → booked t b ≡ false → length b + 1 ≤ bookRoom → length (takeSheet n s t) ≤ sheetRoom
-      → Way n bookRoom sheetRoom k t b s x y (going (insert t b) (takeSheet n s t) (x + struckCount s (takeSheet n s t)) (y + addedCount s (takeSheet n s t)))
+  taken-up : validTransition n t ≡ true → against t b ≡ false → length (withWord t b) ≤ bookRoom → length (takeSheet n s t) ≤ sheetRoom
+      → Way n bookRoom sheetRoom k t b s x y (going (withWord t b) (takeSheet n s t) (x + struckCount s (takeSheet n s t)) (y + addedCount s (takeSheet n s t)))
 
 pub way : (n bookRoom sheetRoom k t : ℕ) (b s : List ℕ) (x y : ℕ) → Way n bookRoom sheetRoom k t b s x y (learnStep n bookRoom sheetRoom k t (going b s x y))
 unfolding learnStep taken
 way n bookRoom sheetRoom k t b s x y =
-    go (validTransition n t) (has t b) (booked t b) (ltb bookRoom (length b + 1)) (ltb sheetRoom (length (takeSheet n s t))) refl refl refl refl refl
+    go (validTransition n t) (told t b) (against t b) (ltb bookRoom (length (withWord t b))) (ltb sheetRoom (length (takeSheet n s t))) refl refl refl refl refl
   where
-    go : (v h o f g : Bool) → validTransition n t ≡ v → has t b ≡ h → booked t b ≡ o → ltb bookRoom (length b + 1) ≡ f → ltb sheetRoom (length (takeSheet n s t)) ≡ g
+    go : (v h o f g : Bool) → validTransition n t ≡ v → told t b ≡ h → against t b ≡ o → ltb bookRoom (length (withWord t b)) ≡ f → ltb sheetRoom (length (takeSheet n s t)) ≡ g
         → Way n bookRoom sheetRoom k t b s x y
         (choose (not v) (refused 6 k) (choose h (going b s x y) (choose o (refused 7 k) (choose f (refused 8 k) (choose g (refused 9 k)
-        (going (insert t b) (takeSheet n s t) (x + struckCount s (takeSheet n s t)) (y + addedCount s (takeSheet n s t))))))))
+        (going (withWord t b) (takeSheet n s t) (x + struckCount s (takeSheet n s t)) (y + addedCount s (takeSheet n s t))))))))
     go false h o f g ev eh eo ef eg = six ev
     go true true o f g ev eh eo ef eg = passed-over ev eh
     go true false true f g ev eh eo ef eg = seven ev eh eo
-    go true false false true g ev eh eo ef eg = eight ev eo (ltb-true bookRoom (length b + 1) ef)
-    go true false false false true ev eh eo ef eg = nine ev eo (ltb-false bookRoom (length b + 1) ef) (ltb-true sheetRoom (length (takeSheet n s t)) eg)
-    go true false false false false ev eh eo ef eg = taken-up ev eo (ltb-false bookRoom (length b + 1) ef) (ltb-false sheetRoom (length (takeSheet n s t)) eg)
+    go true false false true g ev eh eo ef eg = eight ev eo (ltb-true bookRoom (length (withWord t b)) ef)
+    go true false false false true ev eh eo ef eg = nine ev eo (ltb-false bookRoom (length (withWord t b)) ef) (ltb-true sheetRoom (length (takeSheet n s t)) eg)
+    go true false false false false ev eh eo ef eg = taken-up ev eo (ltb-false bookRoom (length (withWord t b)) ef) (ltb-false sheetRoom (length (takeSheet n s t)) eg)
 
 -- ---- all words
 

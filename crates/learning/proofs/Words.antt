@@ -1,14 +1,13 @@
 -- One word of learn: one law for each way through.
 use mathlib.Core.Path.{_≡_, refl, sym, ap, ap₂, _∙_, subst}
-use mathlib.Core.Bool.{Bool, true, false, not, false≢true}
+use mathlib.Core.Bool.{Bool, true, false, not}
 use mathlib.Core.List.{List}
 use Prim.Native.Nat.{ℕ, zero, suc, _+_, _*_, _^_, _≤_, _<_}
 use native.Mathlib.Omega.{arith}
 use lib.Dec.{ltb}
 use lib.ListN.{length, take}
 use lib.Seq.{length-take-le}
-use borrow.Author.Tests.{ltb-false}
-use Rattle.table.specs.Lists.{has, insert, increasing}
+use borrow.Author.Tests.{not-false}
 use Rattle.table.specs.Surgery.{Holds}
 use Rattle.table.proofs.Counting.{missing-le}
 use Rattle.table.proofs.Tables.{increasing-short}
@@ -16,20 +15,21 @@ use Rattle.panel.specs.Rules.{validRule}
 use Rattle.panel.specs.Transitions.{transitionWord, state, next, validTransition}
 use Rattle.panel.proofs.Words.{rule-i}
 use Rattle.panel.proofs.Transitions.{transition-fields, transition-e}
-use Rattle.prime.specs.Books.{goodBook, booked, statesUp}
 use Rattle.prime.specs.Sheets.{goodSheet, takeSheet, struckCount, addedCount}
 use Rattle.prime.proofs.Least.{Good, good-e, good-i}
 use Rattle.prime.proofs.Laws.{take-good}
-use Rattle.prime.proofs.Books.{book-e, book-increasing}
 use Rattle.prime.proofs.Passes.{rule-small}
-use Rattle.book.proofs.Finding.{good-insert}
+use Rattle.book.specs.Books.{statesUp, goodBook, told, against, withWord}
+use Rattle.book.proofs.Books.{book-e, book-increasing}
+use Rattle.book.proofs.Telling.{with-longer, with-good}
 use Rattle.answers.specs.Answers.{refuse, plain, done, answerIf}
 use Rattle.answers.specs.declared.Answer.{Answer}
 use Rattle.answers.proofs.Laws.{refuse-none, answer-done}
 use Rattle.calls.specs.Take.{bookingCode, innerCode, innerAnswer, Ready, Inner}
+use Rattle.calls.proofs.Codes.{booking-none}
 use Rattle.calls.proofs.Ends.{fits-ten}
-use Rattle.learning.specs.Learn.{Run, going, refused, choose, taken, learnStep}
-use Rattle.learning.specs.Running.{runIf, runOf, Sound, Fit, Stepped}
+use Rattle.learning.specs.Learn.{Run, going, refused, choose, taken, wordCode, learnStep}
+use Rattle.learning.specs.Running.{runIf, runOf, Sound, Fit, Next, Stepped}
 
 state-word-few : (t : ℕ) → state t < 1024 → t < 1048576
 unfolding state
@@ -53,61 +53,71 @@ pub runOf-refused : (a : Answer) (book sheet : List ℕ) → (a .code ≡ 0 → 
 unfolding runOf
 runOf-refused a book sheet f = run-refused (a .code) _ (a .place) f
 
--- ---- the step, by the code of the booking
+-- ---- the step, by the code of the word
 
-module _ (n br sr k t : ℕ) (b s : List ℕ) (x y : ℕ) where
-  step-def : learnStep n br sr k t (going b s x y)
-      ≡ choose (not (validTransition n t)) (refused 6 k) (choose (has t b) (going b s x y) (choose (booked t b) (refused 7 k) (choose (ltb br (length b + 1)) (refused 8 k) (taken sr k t b s x y (takeSheet n s t)))))
-  unfolding learnStep
-  step-def = refl
+-- 0 is taken, 1 is passed over, any other code refuses
+stepIf : ℕ → ℕ → Run → Run → Run
+stepIf zero k r q = q
+stepIf (suc zero) k r q = r
+stepIf (suc (suc c)) k r q = refused (suc (suc c)) k
 
-  step-bad : validTransition n t ≡ false → learnStep n br sr k t (going b s x y) ≡ refused 6 k
-  step-bad e = step-def ∙ ap (λ (v : Bool). choose (not v) (refused 6 k) (choose (has t b) (going b s x y) (choose (booked t b) (refused 7 k) (choose (ltb br (length b + 1)) (refused 8 k) (taken sr k t b s x y (takeSheet n s t)))))) e
+step-refuses : (c k : ℕ) (r q : Run) → (c ≡ 1 → ⊥) → (c ≡ 0 → ⊥) → stepIf c k r q ≡ refused c k
+unfolding stepIf
+step-refuses zero k r q f1 f0 = absurd (f0 refl)
+step-refuses (suc zero) k r q f1 f0 = absurd (f1 refl)
+step-refuses (suc (suc c)) k r q f1 f0 = refl
 
-  module _ (e : validTransition n t ≡ true) (c : ℕ) (ec : c ≡ bookingCode t br b) where
-    rest : learnStep n br sr k t (going b s x y) ≡ choose (has t b) (going b s x y) (choose (booked t b) (refused 7 k) (choose (ltb br (length b + 1)) (refused 8 k) (taken sr k t b s x y (takeSheet n s t))))
-    rest = step-def ∙ ap (λ (v : Bool). choose (not v) (refused 6 k) (choose (has t b) (going b s x y) (choose (booked t b) (refused 7 k) (choose (ltb br (length b + 1)) (refused 8 k) (taken sr k t b s x y (takeSheet n s t)))))) e
+module _ (n br sr k t : ℕ) (b s : List ℕ) (x y c : ℕ) (ec : c ≡ wordCode n t br b) where
+  abbrev taking : Run
+  taking = taken sr k t b s x y (takeSheet n s t)
 
-    code-def : c ≡ refuse (has t b) 1 (refuse (booked t b) 7 (refuse (ltb br (length b + 1)) 8 0))
-    unfolding bookingCode
-    code-def = ec
+  step-is : learnStep n br sr k t (going b s x y) ≡ stepIf c k (going b s x y) taking
+  unfolding learnStep wordCode bookingCode stepIf
+  step-is = go (not (validTransition n t)) (told t b) (against t b) (ltb br (length (withWord t b))) ∙ ap (λ (m : ℕ). stepIf m k (going b s x y) taking) (sym ec)
+    where
+      go : (v h g f : Bool) → choose v (refused 6 k) (choose h (going b s x y) (choose g (refused 7 k) (choose f (refused 8 k) taking)))
+          ≡ stepIf (refuse v 6 (refuse h 1 (refuse g 7 (refuse f 8 0)))) k (going b s x y) taking
+      go true h g f = refl
+      go false true g f = refl
+      go false false true f = refl
+      go false false false true = refl
+      go false false false false = refl
 
-    step-repeat : c ≡ 1 → learnStep n br sr k t (going b s x y) ≡ going b s x y
-    step-repeat q = rest ∙ go (has t b) (booked t b) (ltb br (length b + 1)) (sym code-def ∙ q)
-      where
-        go : (h g f : Bool) → refuse h 1 (refuse g 7 (refuse f 8 0)) ≡ 1 → choose h (going b s x y) (choose g (refused 7 k) (choose f (refused 8 k) (taken sr k t b s x y (takeSheet n s t)))) ≡ going b s x y
-        go true g f p = refl
-        go false true f p = absurd (omega (arith, p))
-        go false false true p = absurd (omega (arith, p))
-        go false false false p = absurd (omega (arith, p))
+  step-repeat : c ≡ 1 → learnStep n br sr k t (going b s x y) ≡ going b s x y
+  unfolding stepIf
+  step-repeat q = step-is ∙ ap (λ (m : ℕ). stepIf m k (going b s x y) taking) q
 
-    step-refused : (c ≡ 1 → ⊥) → (c ≡ 0 → ⊥) → learnStep n br sr k t (going b s x y) ≡ refused c k
-    step-refused f1 f0 = rest ∙ go (has t b) (booked t b) (ltb br (length b + 1)) (sym code-def)
-      where
-        go : (h g f : Bool) → refuse h 1 (refuse g 7 (refuse f 8 0)) ≡ c → choose h (going b s x y) (choose g (refused 7 k) (choose f (refused 8 k) (taken sr k t b s x y (takeSheet n s t)))) ≡ refused c k
-        go true g f p = absurd (f1 (sym p))
-        go false true f p = ap (λ (z : ℕ). refused z k) p
-        go false false true p = ap (λ (z : ℕ). refused z k) p
-        go false false false p = absurd (f0 (sym p))
+  step-refused : (c ≡ 1 → ⊥) → (c ≡ 0 → ⊥) → learnStep n br sr k t (going b s x y) ≡ refused c k
+  step-refused f1 f0 = step-is ∙ step-refuses c k (going b s x y) taking f1 f0
 
-    step-takes : c ≡ 0 → learnStep n br sr k t (going b s x y) ≡ taken sr k t b s x y (takeSheet n s t)
-    step-takes q = rest ∙ go (has t b) (booked t b) (ltb br (length b + 1)) (sym code-def ∙ q)
-      where
-        go : (h g f : Bool) → refuse h 1 (refuse g 7 (refuse f 8 0)) ≡ 0 → choose h (going b s x y) (choose g (refused 7 k) (choose f (refused 8 k) (taken sr k t b s x y (takeSheet n s t)))) ≡ taken sr k t b s x y (takeSheet n s t)
-        go true g f p = absurd (omega (arith, p))
-        go false true f p = absurd (omega (arith, p))
-        go false false true p = absurd (omega (arith, p))
-        go false false false p = refl
+  step-takes : c ≡ 0 → learnStep n br sr k t (going b s x y) ≡ taking
+  unfolding stepIf
+  step-takes q = step-is ∙ ap (λ (m : ℕ). stepIf m k (going b s x y) taking) q
 
-    pub takes-room : c ≡ 0 → (booked t b ≡ false) × (length b < br)
-    unfolding bookingCode
-    takes-room q =
-        let h = refuse-none (has t b) 0 _ (sym ec ∙ q) in
-        let g = refuse-none (booked t b) 6 _ (h .1) in
-        let f = refuse-none (ltb br (length b + 1)) 7 _ (g .1) in
-        (g .0, omega (arith, ltb-false br (length b + 1) (f .0)))
+-- ---- the ways through `word_code`
 
--- ---- the ways through
+module _ (n t room : ℕ) (b : List ℕ) (v : Bool) (ev : v ≡ validTransition n t) where
+  pub code-bad : not v ≡ true → 6 ≡ wordCode n t room b
+  unfolding wordCode
+  code-bad e = sym (ap (λ (x : Bool). refuse x 6 (bookingCode t room b)) (ap not (sym ev) ∙ e))
+
+  module _ (e : not v ≡ false) (i j : ℕ) (ei : i ≡ state t) (ej : j ≡ next t) where
+    pub code-asks : n ≤ 10 → statesUp b ≡ true → (i < 1024) × (j < 1024) × (statesUp b ≡ true)
+    code-asks small up =
+        let h = transition-e n t (sym ev ∙ not-false v e) in
+        (rw ei (fits-ten n (state t) small (h .state-lt)), rw ej (fits-ten n (next t) small (h .next-lt)), up)
+
+    pub code-booking : (c : ℕ) → c ≡ bookingCode (transitionWord i j) room b → c ≡ wordCode n t room b
+    unfolding wordCode
+    code-booking c ec =
+        ec ∙ ap (λ (w : ℕ). bookingCode w room b) (ap₂ transitionWord ei ej ∙ transition-fields t)
+        ∙ sym (ap (λ (x : Bool). refuse x 6 (bookingCode t room b)) (ap not (sym ev) ∙ e))
+
+pub code-none : (n t room : ℕ) (b : List ℕ) → wordCode n t room b ≡ 0 → (validTransition n t ≡ true) × (bookingCode t room b ≡ 0)
+unfolding wordCode
+code-none n t room b e = let a = refuse-none (not (validTransition n t)) 5 _ e in (not-false (validTransition n t) (a .0), a .1)
+
+-- ---- the ways through `learn_word`
 
 module _ (n k t : ℕ) (a : Answer) (book sheet : List ℕ) where
   -- a refusal stands
@@ -140,155 +150,159 @@ module _ (n k t : ℕ) (a : Answer) (book sheet : List ℕ) where
       };
     }
 
-    pub word-bad : (v : Bool) → v ≡ validTransition n t → v ≡ false → (r : Answer) → r ≡ plain 6 k 0 0 → Stepped n k t a book sheet r book sheet
-    word-bad v ev e r er = refusal r 6 er (λ p. omega (arith, p)) (step-bad n (length book) (length sheet) k t b s (a .struck) (a .added) (sym ev ∙ e)) book sheet
-
-    module _ (f : Fit n a book sheet) (v : Bool) (ev : v ≡ validTransition n t) (e : v ≡ true) where
-      sd : Sound n a book sheet
-      sd = f .sound z
-
-      valid : validTransition n t ≡ true
-      valid = sym ev ∙ e
-
+    module _ (f : Fit n a book sheet) where
       pub word-books : a .«book_count» ≤ length book
-      word-books = sd .books-in
+      word-books = f .sound z .books-in
 
-      pub word-asks : (i j : ℕ) → i ≡ state t → j ≡ next t → (i < 1024) × (j < 1024) × (statesUp b ≡ true)
-      word-asks i j ei ej =
-          let h = transition-e n t valid in
-          (rw ei (fits-ten n (state t) (sd .small) (h .state-lt)), rw ej (fits-ten n (next t) (sd .small) (h .next-lt)), book-e n b (sd .good-book) .rising)
+      pub word-asks : (n ≤ 10) × (statesUp b ≡ true)
+      word-asks = (f .sound z .small, book-e n b (f .sound z .good-book) .rising)
 
-      module _ (i j c : ℕ) (ei : i ≡ state t) (ej : j ≡ next t) (ec : c ≡ bookingCode (transitionWord i j) (length book) b) where
-        code-t : c ≡ bookingCode t (length book) b
-        code-t = ec ∙ ap (λ (w : ℕ). bookingCode w (length book) b) (ap₂ transitionWord ei ej ∙ transition-fields t)
-
+      module _ (c : ℕ) (ec : c ≡ wordCode n t (length book) b) where
         pub word-repeat : c ≡ 1 → Stepped n k t a book sheet a book sheet
         word-repeat q = record {
-          run = runOf-going a book sheet z ∙ sym (from-going ∙ step-repeat n (length book) (length sheet) k t b s (a .struck) (a .added) valid c code-t q);
+          run = runOf-going a book sheet z ∙ sym (from-going ∙ step-repeat n (length book) (length sheet) k t b s (a .struck) (a .added) c ec q);
           fit = f;
         }
 
         pub word-refused : (c ≡ 1 → ⊥) → (c ≡ 0 → ⊥) → (r : Answer) → r ≡ plain c k 0 0 → Stepped n k t a book sheet r book sheet
-        word-refused f1 f0 r er =
-            refusal r c er f0 (step-refused n (length book) (length sheet) k t b s (a .struck) (a .added) valid c code-t f1 f0) book sheet
+        word-refused f1 f0 r er = refusal r c er f0 (step-refused n (length book) (length sheet) k t b s (a .struck) (a .added) c ec f1 f0) book sheet
 
-        module _ (c0 : c ≡ 0) where
-          new-state : (booked t b ≡ false) × (length b < length book)
-          new-state = takes-room n (length book) (length sheet) k t b s (a .struck) (a .added) valid c code-t c0
+        pub word-next : c ≡ 0 → Next n t a book sheet
+        word-next q = record { done-so-far = z; sound = f .sound z; passes = sym ec ∙ q }
 
-          b-length : length b ≡ a .«book_count»
-          b-length = length-take-le (a .«book_count») book (sd .books-in)
+  -- ---- the ways through `learn_next`
 
-          pub word-ready : Ready n book (a .«book_count») sheet (a .«sheet_count»)
-          word-ready = record {
-            small = sd .small;
-            room = omega (arith, new-state .1, b-length);
-            sheets-in = sd .sheets-in;
-            in-order = book-increasing b (book-e n b (sd .good-book) .rising);
-            good-sheet = sd .good-sheet;
-          }
+  module _ (x : Next n t a book sheet) where
+    abbrev z : a .code ≡ 0
+    z = x .done-so-far
 
-          abbrev new : List ℕ
-          new = takeSheet n s t
+    sd : Sound n a book sheet
+    sd = x .sound
 
-          module _ (bz sz : List ℕ) (w : Answer) (h : Inner n t book (a .«book_count») sheet (a .«sheet_count») bz sz w) where
-            takes : step ≡ choose (ltb (length sheet) (length new)) (refused 9 k) (going (insert t b) new (a .struck + struckCount s new) (a .added + addedCount s new))
-            unfolding taken
-            takes = step-takes n (length book) (length sheet) k t b s (a .struck) (a .added) valid c code-t c0
+    passes : (validTransition n t ≡ true) × (bookingCode t (length book) b ≡ 0)
+    passes = code-none n t (length book) b (x .passes)
 
-            code-cases : (x : Bool) → ltb (length sheet) (length new) ≡ x → w .code ≡ refuse x 9 0
-            unfolding innerAnswer innerCode
-            code-cases x ex =
-                ap (λ (q : Answer). q .code) (h .answer)
-                ∙ picked (refuse (ltb (length sheet) (length new)) 9 0)
-                ∙ ap (λ (q : Bool). refuse q 9 0) ex
-              where
-                picked : (m : ℕ) → (answerIf m (done (a .«book_count» + 1) (length new) (struckCount s new) (addedCount s new)) (plain m 0 (a .«book_count») (a .«sheet_count»))) .code ≡ m
-                picked zero = refl
-                picked (suc m) = refl
+    new-word : (told t b ≡ false) × (against t b ≡ false) × (length (withWord t b) ≤ length book)
+    new-word = booking-none t (length book) b (passes .1)
 
-            pub word-nine : (w .code ≡ 0 → ⊥) → (r : Answer) → r ≡ plain (w .code) k 0 0 → Stepped n k t a book sheet r bz sz
-            word-nine g r er = go (ltb (length sheet) (length new)) refl
-              where
-                go : (x : Bool) → ltb (length sheet) (length new) ≡ x → Stepped n k t a book sheet r bz sz
-                go false ex = absurd (g (code-cases false ex))
-                go true ex =
-                    refusal r (w .code) er g
-                    (takes ∙ ap (λ (q : Bool). choose q (refused 9 k) (going (insert t b) new (a .struck + struckCount s new) (a .added + addedCount s new))) ex ∙ ap (λ (m : ℕ). refused m k) (sym (code-cases true ex)))
-                    bz sz
+    b-length : length b ≡ a .«book_count»
+    b-length = length-take-le (a .«book_count») book (sd .books-in)
 
-            module _ (w0 : w .code ≡ 0) where
-              fits-now : ltb (length sheet) (length new) ≡ false
-              fits-now = go (ltb (length sheet) (length new)) refl
-                where
-                  go : (x : Bool) → ltb (length sheet) (length new) ≡ x → x ≡ false
-                  go false ex = refl
-                  go true ex = absurd (omega (arith, w0, code-cases true ex))
+    pub next-ready : Ready n t book (a .«book_count») sheet (a .«sheet_count»)
+    next-ready = record {
+      small = sd .small;
+      books-in = sd .books-in;
+      in-order = book-e n b (sd .good-book) .rising;
+      untold = new-word .0;
+      room = new-word .2;
+      sheets-in = sd .sheets-in;
+      good-sheet = sd .good-sheet;
+    }
 
-              inner-zero : innerCode n t sheet (a .«sheet_count») ≡ 0
-              unfolding innerCode
-              inner-zero = ap (λ (q : Bool). refuse q 9 0) fits-now
+    abbrev new : List ℕ
+    new = takeSheet n s t
 
-              w-is : w ≡ done (a .«book_count» + 1) (length new) (struckCount s new) (addedCount s new)
-              unfolding innerAnswer
-              w-is = h .answer ∙ answer-done (innerCode n t sheet (a .«sheet_count»)) _ _ inner-zero
+    module _ (bz sz : List ℕ) (w : Answer) (h : Inner n t book (a .«book_count») sheet (a .«sheet_count») bz sz w) where
+      takes : step ≡ choose (ltb (length sheet) (length new)) (refused 9 k) (going (withWord t b) new (a .struck + struckCount s new) (a .added + addedCount s new))
+      unfolding taken
+      takes = step-takes n (length book) (length sheet) k t b s (a .struck) (a .added) 0 (sym (x .passes)) refl
 
-              new-good : Good n new
-              new-good = take-good n (sd .small) s t
+      code-cases : (x : Bool) → ltb (length sheet) (length new) ≡ x → w .code ≡ refuse x 9 0
+      unfolding innerAnswer innerCode
+      code-cases x ex =
+          ap (λ (q : Answer). q .code) (h .answer)
+          ∙ picked (refuse (ltb (length sheet) (length new)) 9 0)
+          ∙ ap (λ (q : Bool). refuse q 9 0) ex
+        where
+          picked : (m : ℕ) → (answerIf m (done (length (withWord t b)) (length new) (struckCount s new) (addedCount s new)) (plain m 0 (a .«book_count») (a .«sheet_count»))) .code ≡ m
+          picked zero = refl
+          picked (suc m) = refl
 
-              short : (l : List ℕ) → Good n l → length l ≤ 16777216
-              short l g = increasing-short l 16777216 (g .sorted) (λ q m. rule-small n q (sd .small) (validRule n q) refl (rule-i n q (g .valid q m)))
+      pub next-nine : (w .code ≡ 0 → ⊥) → (r : Answer) → r ≡ plain (w .code) k 0 0 → Stepped n k t a book sheet r bz sz
+      next-nine g r er = go (ltb (length sheet) (length new)) refl
+        where
+          go : (x : Bool) → ltb (length sheet) (length new) ≡ x → Stepped n k t a book sheet r bz sz
+          go false ex = absurd (g (code-cases false ex))
+          go true ex =
+              refusal z r (w .code) er g
+              (takes ∙ ap (λ (q : Bool). choose q (refused 9 k) (going (withWord t b) new (a .struck + struckCount s new) (a .added + addedCount s new))) ex ∙ ap (λ (m : ℕ). refused m k) (sym (code-cases true ex)))
+              bz sz
 
-              struck-few : struckCount s new ≤ 16777216
-              unfolding struckCount
-              struck-few = omega (arith, missing-le new s, short s (good-e n s (sd .good-sheet)))
+      module _ (w0 : w .code ≡ 0) where
+        fits-now : ltb (length sheet) (length new) ≡ false
+        fits-now = go (ltb (length sheet) (length new)) refl
+          where
+            go : (x : Bool) → ltb (length sheet) (length new) ≡ x → x ≡ false
+            go false ex = refl
+            go true ex = absurd (omega (arith, w0, code-cases true ex))
 
-              added-few : addedCount s new ≤ 16777216
-              unfolding addedCount
-              added-few = omega (arith, missing-le s new, short new new-good)
+        inner-zero : innerCode n t sheet (a .«sheet_count») ≡ 0
+        unfolding innerCode
+        inner-zero = ap (λ (q : Bool). refuse q 9 0) fits-now
 
-              books-few : a .«book_count» ≤ 1048576
-              books-few =
-                  omega (arith, b-length, increasing-short b 1048576 (book-increasing b (book-e n b (sd .good-book) .rising)) (λ q m. word-few q (book-e n b (sd .good-book) .valid q m .state-lt)))
-                where
-                  word-few : (q : ℕ) → state q < 2 ^ n → q < 1048576
-                  word-few q l = state-word-few q (fits-ten n (state q) (sd .small) l)
+        w-is : w ≡ done (length (withWord t b)) (length new) (struckCount s new) (addedCount s new)
+        unfolding innerAnswer
+        w-is = h .answer ∙ answer-done (innerCode n t sheet (a .«sheet_count»)) _ _ inner-zero
 
-              pub word-struck : w .struck ≤ 16777216
-              word-struck = omega (arith, ap (λ (q : Answer). q .struck) w-is, struck-few)
+        book-longer : length (withWord t b) ≡ suc (a .«book_count»)
+        book-longer = with-longer t b (new-word .0) ∙ ap suc b-length
 
-              pub word-added : w .added ≤ 16777216
-              word-added = omega (arith, ap (λ (q : Answer). q .added) w-is, added-few)
+        new-good : Good n new
+        new-good = take-good n (sd .small) s t
 
-              pub word-sums : (a .struck ≤ 1048576 * 16777216) × (a .added ≤ 1048576 * 16777216)
-              word-sums = (omega (arith, sd .struck-few, books-few), omega (arith, sd .added-few, books-few))
+        short : (l : List ℕ) → Good n l → length l ≤ 16777216
+        short l g = increasing-short l 16777216 (g .sorted) (λ q m. rule-small n q (sd .small) (validRule n q) refl (rule-i n q (g .valid q m)))
 
-              pub word-done : (r : Answer) → r ≡ done (w .«book_count») (w .«sheet_count») (a .struck + w .struck) (a .added + w .added) → Stepped n k t a book sheet r bz sz
-              word-done r er = record {
-                run = runOf-going r bz sz (ap (λ (q : Answer). q .code) er) ∙ same-run ∙ sym (from-going ∙ takes ∙ ap (λ (q : Bool). choose q (refused 9 k) (going (insert t b) new (a .struck + struckCount s new) (a .added + addedCount s new))) fits-now);
-                fit = record { sound = λ p. sound-now; alone = λ p. absurd (p (ap (λ (q : Answer). q .code) er)) };
-              }
-                where
-                  r-is : r ≡ done (a .«book_count» + 1) (length new) (a .struck + struckCount s new) (a .added + addedCount s new)
-                  r-is = er ∙ ap (λ (q : Answer). done (q .«book_count») (q .«sheet_count») (a .struck + q .struck) (a .added + q .added)) w-is
+        struck-few : struckCount s new ≤ 16777216
+        unfolding struckCount
+        struck-few = omega (arith, missing-le new s, short s (good-e n s (sd .good-sheet)))
 
-                  hb : Holds bz (r .«book_count») (length book) (insert t b)
-                  hb = subst (λ (m : ℕ). Holds bz m (length book) (insert t b)) (sym (ap (λ (q : Answer). q .«book_count») r-is)) (h .booked-in inner-zero)
+        added-few : addedCount s new ≤ 16777216
+        unfolding addedCount
+        added-few = omega (arith, missing-le s new, short new new-good)
 
-                  hs : Holds sz (r .«sheet_count») (length sheet) new
-                  hs = subst (λ (m : ℕ). Holds sz m (length sheet) new) (sym (ap (λ (q : Answer). q .«sheet_count») r-is)) (h .taken-in inner-zero)
+        books-few : a .«book_count» ≤ 1048576
+        books-few =
+            omega (arith, b-length, increasing-short b 1048576 (book-increasing b (book-e n b (sd .good-book) .rising)) (λ q m. word-few q (book-e n b (sd .good-book) .valid q m .state-lt)))
+          where
+            word-few : (q : ℕ) → state q < 2 ^ n → q < 1048576
+            word-few q l = state-word-few q (fits-ten n (state q) (sd .small) l)
 
-                  same-run : going (take (r .«book_count») bz) (take (r .«sheet_count») sz) (r .struck) (r .added) ≡ going (insert t b) new (a .struck + struckCount s new) (a .added + addedCount s new)
-                  same-run = λ q. going (hb .is q) (hs .is q) (ap (λ (u : Answer). u .struck) r-is q) (ap (λ (u : Answer). u .added) r-is q)
+        pub next-struck : w .struck ≤ 16777216
+        next-struck = omega (arith, ap (λ (q : Answer). q .struck) w-is, struck-few)
 
-                  sound-now : Sound n r bz sz
-                  sound-now = record {
-                    small = sd .small;
-                    books-in = hb .fits;
-                    sheets-in = hs .fits;
-                    good-book = ap (goodBook n) (hb .is) ∙ good-insert n t b (sd .good-book) valid (new-state .0);
-                    good-sheet = ap (goodSheet n) (hs .is) ∙ good-i n new new-good;
-                    struck-few = omega (arith, ap (λ (u : Answer). u .struck) r-is, ap (λ (u : Answer). u .«book_count») r-is, sd .struck-few, struck-few);
-                    added-few = omega (arith, ap (λ (u : Answer). u .added) r-is, ap (λ (u : Answer). u .«book_count») r-is, sd .added-few, added-few);
-                    as-done = er ∙ sym (ap (λ (u : Answer). done (u .«book_count») (u .«sheet_count») (u .struck) (u .added)) er);
-                  }
+        pub next-added : w .added ≤ 16777216
+        next-added = omega (arith, ap (λ (q : Answer). q .added) w-is, added-few)
+
+        pub next-sums : (a .struck ≤ 1048576 * 16777216) × (a .added ≤ 1048576 * 16777216)
+        next-sums = (omega (arith, sd .struck-few, books-few), omega (arith, sd .added-few, books-few))
+
+        pub next-done : (r : Answer) → r ≡ done (w .«book_count») (w .«sheet_count») (a .struck + w .struck) (a .added + w .added) → Stepped n k t a book sheet r bz sz
+        next-done r er = record {
+          run = runOf-going r bz sz (ap (λ (q : Answer). q .code) er) ∙ same-run ∙ sym (from-going z ∙ takes ∙ ap (λ (q : Bool). choose q (refused 9 k) (going (withWord t b) new (a .struck + struckCount s new) (a .added + addedCount s new))) fits-now);
+          fit = record { sound = λ p. sound-now; alone = λ p. absurd (p (ap (λ (q : Answer). q .code) er)) };
+        }
+          where
+            r-is : r ≡ done (length (withWord t b)) (length new) (a .struck + struckCount s new) (a .added + addedCount s new)
+            r-is = er ∙ ap (λ (q : Answer). done (q .«book_count») (q .«sheet_count») (a .struck + q .struck) (a .added + q .added)) w-is
+
+            hb : Holds bz (r .«book_count») (length book) (withWord t b)
+            hb = subst (λ (m : ℕ). Holds bz m (length book) (withWord t b)) (sym (ap (λ (q : Answer). q .«book_count») r-is)) (h .booked-in inner-zero)
+
+            hs : Holds sz (r .«sheet_count») (length sheet) new
+            hs = subst (λ (m : ℕ). Holds sz m (length sheet) new) (sym (ap (λ (q : Answer). q .«sheet_count») r-is)) (h .taken-in inner-zero)
+
+            same-run : going (take (r .«book_count») bz) (take (r .«sheet_count») sz) (r .struck) (r .added) ≡ going (withWord t b) new (a .struck + struckCount s new) (a .added + addedCount s new)
+            same-run = λ q. going (hb .is q) (hs .is q) (ap (λ (u : Answer). u .struck) r-is q) (ap (λ (u : Answer). u .added) r-is q)
+
+            sound-now : Sound n r bz sz
+            sound-now = record {
+              small = sd .small;
+              books-in = hb .fits;
+              sheets-in = hs .fits;
+              good-book = ap (goodBook n) (hb .is) ∙ with-good n t b (sd .good-book) (passes .0) (new-word .1);
+              good-sheet = ap (goodSheet n) (hs .is) ∙ good-i n new new-good;
+              struck-few = omega (arith, ap (λ (u : Answer). u .struck) r-is, ap (λ (u : Answer). u .«book_count») r-is, sd .struck-few, struck-few, book-longer);
+              added-few = omega (arith, ap (λ (u : Answer). u .added) r-is, ap (λ (u : Answer). u .«book_count») r-is, sd .added-few, added-few, book-longer);
+              as-done = er ∙ sym (ap (λ (u : Answer). done (u .«book_count») (u .«sheet_count») (u .struck) (u .added)) er);
+            }

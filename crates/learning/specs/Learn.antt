@@ -5,14 +5,14 @@ use mathlib.Core.List.{List, [], _∷_}
 use Prim.Native.Nat.{ℕ, _+_}
 use lib.Dec.{eqb, ltb}
 use lib.ListN.{length, replicate}
-use Rattle.table.specs.Lists.{has, insert}
 use Rattle.table.specs.Surgery.{filled, oneMoreIf}
 use Rattle.panel.specs.Masks.{panelSize}
 use Rattle.panel.specs.Transitions.{state, next, validTransition}
-use Rattle.prime.specs.Books.{booked}
 use Rattle.prime.specs.Sheets.{freshSheet, takeSheet, applySheet, struckCount, addedCount}
-use Rattle.answers.specs.Answers.{plain, done}
+use Rattle.book.specs.Books.{told, against, withWord}
+use Rattle.answers.specs.Answers.{refuse, plain, done}
 use Rattle.answers.specs.declared.Answer.{Answer}
+use Rattle.calls.specs.Take.{bookingCode}
 
 -- where learning stands: the book and the sheet so far with the sums of struck and added, or the code and place of a refusal
 pub data Run : Type 0 where
@@ -26,17 +26,21 @@ choose false a b = b
 -- the word t, number k, is taken: book and sheet were b and s, and new is the sheet with t taken
 unfoldable pub taken : ℕ → ℕ → ℕ → List ℕ → List ℕ → ℕ → ℕ → List ℕ → Run
 taken sheetRoom k t b s struck added new =
-    choose (ltb sheetRoom (length new)) (refused 9 k) (going (insert t b) new (struck + struckCount s new) (added + addedCount s new))
+    choose (ltb sheetRoom (length new)) (refused 9 k) (going (withWord t b) new (struck + struckCount s new) (added + addedCount s new))
 
 -- one word, by 6, 7, 8, 9; a repeat is passed over, and a refusal stands
 unfoldable pub learnStep : ℕ → ℕ → ℕ → ℕ → ℕ → Run → Run
 learnStep n bookRoom sheetRoom k t (refused c p) = refused c p
 learnStep n bookRoom sheetRoom k t (going b s x y) =
     choose (not (validTransition n t)) (refused 6 k)
-    (choose (has t b) (going b s x y)
-    (choose (booked t b) (refused 7 k)
-    (choose (ltb bookRoom (length b + 1)) (refused 8 k)
+    (choose (told t b) (going b s x y)
+    (choose (against t b) (refused 7 k)
+    (choose (ltb bookRoom (length (withWord t b))) (refused 8 k)
     (taken sheetRoom k t b s x y (takeSheet n s t)))))
+
+-- the code of the word t before it is taken: 6, else 1, 7, 8 or 0 as a take has it
+unfoldable pub wordCode : ℕ → ℕ → ℕ → List ℕ → ℕ
+wordCode n t bookRoom b = refuse (not (validTransition n t)) 6 (bookingCode t bookRoom b)
 
 -- each word of the list in turn, the first one being number k
 unfoldable pub learnWords : ℕ → ℕ → ℕ → ℕ → List ℕ → Run → Run

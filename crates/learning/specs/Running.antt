@@ -4,11 +4,11 @@ use mathlib.Core.Bool.{true}
 use mathlib.Core.List.{List}
 use Prim.Native.Nat.{ℕ, zero, suc, _*_, _≤_}
 use lib.ListN.{length, take}
-use Rattle.prime.specs.Books.{goodBook}
 use Rattle.prime.specs.Sheets.{goodSheet}
+use Rattle.book.specs.Books.{goodBook}
 use Rattle.answers.specs.Answers.{plain, done}
 use Rattle.answers.specs.declared.Answer.{Answer}
-use Rattle.learning.specs.Learn.{Run, going, refused, learnStep, learnWords, learnStart, learnEnd, runAnswer, runBook, runSheet}
+use Rattle.learning.specs.Learn.{Run, going, refused, wordCode, learnStep, learnWords, learnStart, learnEnd, runAnswer, runBook, runSheet}
 
 abbrev pub runIf : ℕ → Run → ℕ → Run
 runIf zero r p = r
@@ -33,6 +33,12 @@ pub record Sound (n : ℕ) (a : Answer) (book sheet : List ℕ) : Type 0 where
 pub record Fit (n : ℕ) (a : Answer) (book sheet : List ℕ) : Type 0 where
   pub sound : a .code ≡ 0 → Sound n a book sheet
   pub alone : (a .code ≡ 0 → ⊥) → a ≡ plain (a .code) (a .place) 0 0
+
+-- a word that nothing refuses but 9 comes after a sound answer
+pub record Next (n t : ℕ) (a : Answer) (book sheet : List ℕ) : Type 0 where
+  pub done-so-far : a .code ≡ 0
+  pub sound : Sound n a book sheet
+  pub passes : wordCode n t (length book) (take (a .«book_count») book) ≡ 0
 
 -- one word was learned: a, book and sheet before, r, book′ and sheet′ after
 pub record Stepped (n k t : ℕ) (a : Answer) (book sheet : List ℕ) (r : Answer) (book′ sheet′ : List ℕ) : Type 0 where

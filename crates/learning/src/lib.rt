@@ -8,10 +8,50 @@ ghost use Prim.Native.Nat.{_≤_};
 ghost use lib.ListN.{length, replicate};
 ghost use Rattle.table.specs.Lists.{all};
 ghost use Rattle.panel.specs.Rules.{validRule};
-ghost use Rattle.learning.specs.Learn.{reproduced, Learned};
-ghost use Rattle.learning.specs.Running.{Fit, Stepped, Through, Begun, Finished};
+ghost use Rattle.book.specs.Books.{statesUp};
+ghost use Rattle.learning.specs.Learn.{wordCode, reproduced, Learned};
+ghost use Rattle.learning.specs.Running.{Fit, Next, Stepped, Through, Begun, Finished};
 
-// The word t, number k of the list; a refusal stands.
+// The code of the word t before it is taken into the book: 6, 1, 7, 8 or 0.
+fn word_code(n: u32, t: u32, book: &[u32], room: usize) -> u32
+    requires { ⌜ (n ≤ 10) × (statesUp (now book) ≡ true) ⌝ }
+    ensures { λ r. ⌜ r ≡ wordCode n t room (now (book .entry)) ⌝ }
+{
+    if !panel::is_transition(n, t) {
+        return 6;
+    }
+    let i = panel::state_of(t);
+    let j = panel::next_of(t);
+    calls::booking_code(book, i, j, room)
+}
+
+// The word t, number k of the list, which nothing refuses but 9.
+fn learn_next(
+    n: u32,
+    t: u32,
+    k: usize,
+    before: Answer,
+    book: &mut [u32],
+    sheet: &mut [u32],
+) -> Answer
+    requires { ⌜ Next n t before (now book) (now sheet) ⌝ }
+    ensures { λ r. ⌜ Stepped n k t before (now (book .entry)) (now (sheet .entry)) r (now (book .exit)) (now (sheet .exit)) ⌝ }
+{
+    let books = before.book_count;
+    let sheets = before.sheet_count;
+    let now = calls::take_in(n, t, book, books, sheet, sheets);
+    if now.code != 0 {
+        return plain_answer(now.code, k, 0, 0);
+    }
+    done_answer(
+        now.book_count,
+        now.sheet_count,
+        before.struck + now.struck,
+        before.added + now.added,
+    )
+}
+
+// The word t, number k of the list, judged and then taken; a repeat is passed over, and a refusal stands.
 fn learn_word(
     n: u32,
     t: u32,
@@ -26,31 +66,16 @@ fn learn_word(
     if before.code != 0 {
         return before;
     }
-    if !panel::is_transition(n, t) {
-        return plain_answer(6, k, 0, 0);
-    }
     let books = before.book_count;
     let room = book.len();
-    let i = panel::state_of(t);
-    let j = panel::next_of(t);
-    let code = calls::booking_code(&book[..books], i, j, room);
+    let code = word_code(n, t, &book[..books], room);
     if code == 1 {
         return before;
     }
     if code != 0 {
         return plain_answer(code, k, 0, 0);
     }
-    let sheets = before.sheet_count;
-    let now = calls::take_in(n, t, book, books, sheet, sheets);
-    if now.code != 0 {
-        return plain_answer(now.code, k, 0, 0);
-    }
-    done_answer(
-        now.book_count,
-        now.sheet_count,
-        before.struck + now.struck,
-        before.added + now.added,
-    )
+    learn_next(n, t, k, before, book, sheet)
 }
 
 // The fresh sheet to start from, or the refusal.

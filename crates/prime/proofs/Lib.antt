@@ -2,5 +2,4 @@ pub mod Least
 pub mod Laws
 pub mod Apply
 pub mod Primes
-pub mod Books
 pub mod Passes

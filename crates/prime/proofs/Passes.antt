@@ -1,4 +1,4 @@
--- The passes over a book or a sheet, turn by turn: judging good ones, and applying a sheet.
+-- The passes over a sheet, turn by turn: judging good ones, and applying a sheet.
 use mathlib.Core.Path.{_≡_, refl, sym, ap, _∙_, subst}
 use mathlib.Core.Logic.{_⊎_, inl, inr}
 use mathlib.Core.Bool.{Bool, true, false, not, _&&_, _||_, and-assoc, and-true, and-false, or-false}
@@ -8,7 +8,7 @@ use native.Mathlib.Nat.{lt-of-lt-of-le}
 use native.Mathlib.Numerals.{add-one}
 use native.Mathlib.Omega.{arith}
 use lib.Bits.{bitOr, or-lt}
-use lib.Dec.{eqb, ltb}
+use lib.Dec.{eqb}
 use lib.ListN.{length, take, drop, getD, drop-of-length-le, length-drop}
 use lib.Seq.{drop-cons, take-all}
 use lib.Pow.{pow-pos, pow-lt, pow-mono}
@@ -16,32 +16,13 @@ use borrow.Author.Tests.{eqb-true, eq-eqb}
 use Rattle.table.specs.Lists.{any, all, increasing}
 use Rattle.table.proofs.Basics.{and-r, or-l, or-r, or-e, false-test, same-test, any-e, any-i, all-e, either, at-in, or-assoc}
 use Rattle.table.proofs.Increasing.{first-below, rest-increasing}
-use Rattle.table.proofs.Searching.{anyLeft, risesBy, risesLeft, rises-is, rises-start, increasing-rises}
+use Rattle.table.proofs.Searching.{anyLeft, risesLeft, rises-is, rises-start, increasing-rises}
 use Rattle.panel.specs.Masks.{on}
 use Rattle.panel.specs.Rules.{ruleWord, head, validRule, covers, contains, narrows}
-use Rattle.panel.specs.Transitions.{state, validTransition}
 use Rattle.panel.proofs.Masks.{bit, same-bits, on-or-l, on-or-r, on-or-e, on-bit, bit-on, add-on, add-other, bit-of-zero, off-zero}
 use Rattle.panel.proofs.Words.{head-up, rule-e, narrows-e, narrows-le, word-fields, mustOn-small, mustOff-small}
-use Rattle.panel.proofs.Transitions.{transition-e}
-use Rattle.prime.specs.Books.{statesUp, goodBook}
 use Rattle.prime.specs.Sheets.{antichain, goodSheet, pullsIn, applySheet, orBit, pulled}
 use Rattle.prime.proofs.Apply.{apply-lt, apply-on}
-
--- ---- a good book
-
-pub statesUp-rises : (b : List ℕ) → statesUp b ≡ risesBy state b
-statesUp-rises [] = refl
-statesUp-rises (t ∷ b) = ap (λ (z : Bool). all (λ u. ltb (state t) (state u)) b && z) (statesUp-rises b)
-
-pub book-start : (n : ℕ) (b : List ℕ) → goodBook n b ≡ risesLeft (validTransition n) state 0 b 0
-unfolding goodBook
-book-start n b =
-    ap (λ (z : Bool). all (validTransition n) b && z) (statesUp-rises b)
-    ∙ rises-is (validTransition n) state b ∙ rises-start (validTransition n) state b
-
--- the state of a transition of a panel
-pub state-small : (n t i : ℕ) → n ≤ 10 → (b : Bool) → b ≡ validTransition n t → b ≡ true → i ≡ state t → i < 1024
-state-small n t i l b eb e ei = lt-of-lt-of-le (rw ei (transition-e n t (sym eb ∙ e) .state-lt)) (pow-mono l)
 
 -- ---- rules in order
 

@@ -1,3 +1,2 @@
 pub mod Sheets
-pub mod Books
 pub mod Primes

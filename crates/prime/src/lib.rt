@@ -1,34 +1,11 @@
-// Good books and good sheets, judged; the stretch of a head; and what a sheet says of a state.
+// Good sheets, judged; the stretch of a head; and what a sheet says of a state.
 ghost use mathlib.Core.Path.{_≡_};
 ghost use mathlib.Core.Bool.{Bool, true, _&&_};
 ghost use mathlib.Core.List.{_∷_};
 ghost use Prim.Native.Nat.{_≤_, _^_, _<_};
 ghost use Rattle.table.specs.Lists.{any, all, increasing};
 ghost use Rattle.panel.specs.Rules.{head, validRule, narrows, ofHead};
-ghost use Rattle.prime.specs.Books.{goodBook};
 ghost use Rattle.prime.specs.Sheets.{goodSheet, antichain, applySheet, pulled};
-
-// The words are a good book for n relays.
-pub fn is_good_book(n: u32, book: &[u32]) -> bool
-    requires { ⌜ n ≤ 10 ⌝ }
-    ensures { λ r. ⌜ r ≡ goodBook n (now (book .entry)) ⌝ }
-{
-    let mut lo: u32 = 0;
-    let mut k: usize = 0;
-    while k < book.len() {
-        let t = book[k];
-        if !panel::is_transition(n, t) {
-            return false;
-        }
-        let i = panel::state_of(t);
-        if i < lo {
-            return false;
-        }
-        lo = i + 1;
-        k += 1;
-    }
-    true
-}
 
 // The words are rules of a panel with n relays, strictly increasing.
 fn are_rules(n: u32, sheet: &[u32]) -> bool

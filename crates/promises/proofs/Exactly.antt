@@ -15,7 +15,8 @@ use Rattle.headers.proofs.PlaceLaws.{one-size, one-place, accepted-no-place}
 use Rattle.recording.specs.Rows.{textWords}
 use Rattle.recording.proofs.WordLaws.{read-size, read-valid}
 use Rattle.program.specs.Program.{refusalLine, Runs}
-use Rattle.handover.specs.Learning.{OneNext, Learnable, LearnRefused}
+use Rattle.book.specs.Books.{OneNext}
+use Rattle.handover.specs.Learning.{Learnable, LearnRefused}
 use Rattle.handover.proofs.Stopping.{learnable-not-refused, learn-refused-once}
 use Rattle.promises.specs.Printed.{Recorded, Refused, too-long, faulty, too-many, contradicted, too-large, Prints, SheetPrinted, Printed, a-sheet, a-refusal, Rooms}
 use Rattle.promises.proofs.Learning.{words-learnable}

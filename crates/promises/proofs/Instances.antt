@@ -10,6 +10,8 @@ use Rattle.panel.specs.Masks.{on, relays, allOn, allOff, panelSize}
 use Rattle.panel.specs.Rules.{ruleWord, rules}
 use Rattle.panel.specs.Transitions.{transitionWord, state, next, validTransition}
 use Rattle.prime.specs.Sheets.{consistent, least, sheetWhere, sheetOf}
+use Rattle.book.specs.Books.{differ, against}
+use Rattle.book.proofs.Telling.{one-next-i}
 use Rattle.answers.specs.Answers.{wordsIf}
 use Rattle.fields.specs.Bytes.{markOf, run, same}
 use Rattle.fields.specs.Texts.{linesOf, body}
@@ -108,7 +110,7 @@ two-rows-recorded = record { short = omega arith; good = texts .two-rows-good; w
 pub two-rows-learnable : Learnable 1 (1024 ∷ 0 ∷ []) 1024 1024
 unfolding panelSize state next validTransition
 two-rows-learnable =
-    words-learnable 1 refl (1024 ∷ 0 ∷ []) refl (omega arith) (1024 ∷ 0 ∷ []) [] refl (λ t u m k e. zero-next t m ∙ sym (zero-next u k)) (λ ps rest e. one-relay-fits ps)
+    words-learnable 1 refl (1024 ∷ 0 ∷ []) refl (omega arith) (1024 ∷ 0 ∷ []) [] refl (one-next-i (1024 ∷ 0 ∷ []) (λ t u m k e. zero-next t m ∙ sym (zero-next u k))) (λ ps rest e. one-relay-fits ps)
 
 -- in the words of one-dash they stand in another order, one of them twice
 turned : (w : ℕ) → Mem w (1024 ∷ 0 ∷ []) → Mem w (0 ∷ 1024 ∷ 0 ∷ [])
@@ -136,7 +138,7 @@ one-dash-recorded = record { short = omega arith; good = texts .one-dash-good; w
 pub one-dash-learnable : Learnable 1 (0 ∷ 1024 ∷ 0 ∷ []) 1024 1024
 unfolding panelSize state next validTransition
 one-dash-learnable =
-    words-learnable 1 refl (0 ∷ 1024 ∷ 0 ∷ []) refl (omega arith) (0 ∷ 1024 ∷ 0 ∷ []) [] refl (λ t u m k e. zero-next t (back t m) ∙ sym (zero-next u (back u k))) (λ ps rest e. one-relay-fits ps)
+    words-learnable 1 refl (0 ∷ 1024 ∷ 0 ∷ []) refl (omega arith) (0 ∷ 1024 ∷ 0 ∷ []) [] refl (one-next-i (0 ∷ 1024 ∷ 0 ∷ []) (λ t u m k e. zero-next t (back t m) ∙ sym (zero-next u (back u k)))) (λ ps rest e. one-relay-fits ps)
 
 -- ---- the program's slices and its runs
 
@@ -187,11 +189,11 @@ one-text-printed =
 
 -- 7 at word 1: "0 to 1" after "0 to 0"
 pub two-ways-contradicted : LearnRefused 1 (0 ∷ 1 ∷ []) 1024 1024 7 1
-unfolding panelSize state next validTransition
+unfolding panelSize state next validTransition differ against
 two-ways-contradicted =
     at-word (0 ∷ []) 1 1 7 (record { rest = []; whole = refl; number = refl })
-    (words-learnable 1 refl (0 ∷ 1 ∷ []) refl (omega arith) (0 ∷ []) (1 ∷ []) refl (λ t u m k e. ap next (List·Memᴰ·eq-of-singleton m ∙ sym (List·Memᴰ·eq-of-singleton k))) (λ ps rest e. one-relay-fits ps))
-    (stopped 0 refl (here refl) refl (λ e. omega (arith, e)))
+    (words-learnable 1 refl (0 ∷ 1 ∷ []) refl (omega arith) (0 ∷ []) (1 ∷ []) refl (λ t m. ap (λ (x : ℕ). against x (0 ∷ [])) (List·Memᴰ·eq-of-singleton m)) (λ ps rest e. one-relay-fits ps))
+    (stopped refl refl)
 
 -- 13: one byte too many
 pub long-refused : Refused (replicate 24577 0) 13 0

@@ -11,9 +11,10 @@ use Rattle.table.proofs.Basics.{all-e}
 use Rattle.panel.specs.Masks.{panelSize}
 use Rattle.panel.specs.Transitions.{validTransition}
 use Rattle.prime.specs.Sheets.{sheetOf}
+use Rattle.book.specs.Books.{OneNext, bookOf}
+use Rattle.book.proofs.BookOf.{book-few}
 use Rattle.writing.proofs.WriteLaws.{size-small}
-use Rattle.handover.specs.Learning.{bookOf, OneNext, Learnable, invalid, contradicted, book-full, sheet-full, LearnRefused, no-panel, no-room, at-word}
-use Rattle.handover.proofs.BookOf.{book-few}
+use Rattle.handover.specs.Learning.{Learnable, invalid, contradicted, book-full, sheet-full, LearnRefused, no-panel, no-room, at-word}
 
 module _ (n : ℕ) (size : panelSize n ≡ true) (ts : List ℕ) (ok : all (validTransition n) ts ≡ true) (few : length ts ≤ 1024) where
   valid-word : (ps rest : List ℕ) → ts ≡ ps ++ rest → (w : ℕ) → Mem w ps → validTransition n w ≡ true
@@ -35,6 +36,6 @@ module _ (n : ℕ) (size : panelSize n ≡ true) (ts : List ℕ) (ok : all (vali
   learn-ended (no-room e g) = absurd (omega (arith, g, size-small n e))
   learn-ended (at-word ps w k c b l (invalid e)) =
       absurd (false≢true (sym e ∙ valid-word (ps ++ w ∷ []) (b .rest) (up-to ps w (b .rest) (b .whole)) w (Memᴰ·append-right ps (here refl))))
-  learn-ended (at-word ps w k c b l (contradicted u v m e f)) = inl refl
+  learn-ended (at-word ps w k c b l (contradicted v e)) = inl refl
   learn-ended (at-word ps w k c b l (book-full g h)) = absurd (omega (arith, h, book-room (ps ++ w ∷ []) (b .rest) (up-to ps w (b .rest) (b .whole))))
   learn-ended (at-word ps w k c b l (sheet-full g h f)) = inr refl

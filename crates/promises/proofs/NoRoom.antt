@@ -3,20 +3,15 @@ use mathlib.Core.Path.{_≡_, refl, sym, ap, _∙_, subst}
 use mathlib.Core.Logic.{_⊎_, inl, inr, _↔_}
 use mathlib.Core.Bool.{Bool, true, false, not, _&&_, _||_, cond, false≢true}
 use mathlib.Core.List.{List, [], _∷_}
-use Prim.Native.Nat.{ℕ, zero, suc, _+_, _^_, _≤_, _<_}
+use Prim.Native.Nat.{ℕ, zero, suc, _^_, _≤_, _<_}
 use native.Mathlib.Omega.{arith}
 use lib.Dec.{ltb, leb, eqb}
 use lib.ListN.{length, take}
 use borrow.Author.Tests.{ltb-true, ltb-false, lt-ltb, le-ltb, leb-true, leb-false, eqb-true, eqb-false}
-use Rattle.table.specs.Lists.{has, insert}
-use Rattle.table.proofs.Basics.{false-test}
-use Rattle.table.proofs.Counting.{has-e}
-use Rattle.table.proofs.Inserting.{insert-length}
 use Rattle.panel.specs.Masks.{panelSize}
 use Rattle.panel.specs.Transitions.{transitionWord}
-use Rattle.prime.specs.Books.{goodBook, booked, clash}
 use Rattle.prime.specs.Sheets.{goodSheet, freshSheet, takeSheet, struckCount, addedCount}
-use Rattle.book.proofs.Finding.{booked-i}
+use Rattle.book.specs.Books.{goodBook, told, against, withWord, clash}
 use Rattle.sheet.proofs.Fresh.{fresh-length}
 use Rattle.answers.specs.Answers.{refuse, plain, done, answerIf}
 use Rattle.answers.specs.declared.Answer.{Answer}
@@ -134,35 +129,32 @@ module _ (spoilt : Bool) (n : ℕ) (book : List ℕ) (books : ℕ) (sheet : List
       go v w x y z =
           most v 2 _ 6 (omega arith) (most w 3 _ 6 (omega arith) (most x 4 _ 6 (omega arith) (most y 5 _ 6 (omega arith) (most z 6 0 6 (omega arith) (omega arith)))))
 
-  free-new : booked t b ≡ false → has t b ≡ false
-  free-new f = false-test (has t b) (λ e. false≢true (sym f ∙ booked-i t b t (has-e t b e) refl))
-
-  booking-8 : (bookingCode t (length book) b ≡ 8) ↔ ((booked t b ≡ false) × (length book < length (insert t b)))
+  booking-8 : (bookingCode t (length book) b ≡ 8) ↔ ((told t b ≡ false) × (against t b ≡ false) × (length book < length (withWord t b)))
   unfolding bookingCode
   booking-8 =
-      let one = rung (has t b) 1 (refuse (booked t b) 7 (refuse (ltb (length book) (length b + 1)) 8 0)) 8 (λ q. omega (arith, q)) in
-      let seven = rung (booked t b) 7 (refuse (ltb (length book) (length b + 1)) 8 0) 8 (λ q. omega (arith, q)) in
-      let full = exceeded (length book) (length b + 1) 8 0 (λ q. omega (arith, q)) in (
-        λ e. let k = seven .0 (one .0 e .1) in (k .0, omega (arith, full .0 (k .1), insert-length t b)),
-        λ k. one .1 (free-new (k .0), seven .1 (k .0, full .1 (omega (arith, k .1, insert-length t b)))),
+      let one = rung (told t b) 1 (refuse (against t b) 7 (refuse (ltb (length book) (length (withWord t b))) 8 0)) 8 (λ q. omega (arith, q)) in
+      let seven = rung (against t b) 7 (refuse (ltb (length book) (length (withWord t b))) 8 0) 8 (λ q. omega (arith, q)) in
+      let full = exceeded (length book) (length (withWord t b)) 8 0 (λ q. omega (arith, q)) in (
+        λ e. let h = one .0 e in let k = seven .0 (h .1) in (h .0, k .0, full .0 (k .1)),
+        λ k. one .1 (k .0, seven .1 (k .1, full .1 (k .2))),
       )
 
   booking-most : bookingCode t (length book) b ≤ 8
   unfolding bookingCode
   booking-most =
-      most (has t b) 1 (refuse (booked t b) 7 (refuse (ltb (length book) (length b + 1)) 8 0)) 8 (omega arith)
-      (most (booked t b) 7 (refuse (ltb (length book) (length b + 1)) 8 0) 8 (omega arith) (most (ltb (length book) (length b + 1)) 8 0 8 (omega arith) (omega arith)))
+      most (told t b) 1 (refuse (against t b) 7 (refuse (ltb (length book) (length (withWord t b))) 8 0)) 8 (omega arith)
+      (most (against t b) 7 (refuse (ltb (length book) (length (withWord t b))) 8 0) 8 (omega arith) (most (ltb (length book) (length (withWord t b))) 8 0 8 (omega arith) (omega arith)))
 
-  entry-8 : (entry ≡ 8) ↔ ((lent ≡ 0) × (booked t b ≡ false) × (length book < length (insert t b)))
+  entry-8 : (entry ≡ 8) ↔ ((lent ≡ 0) × (told t b ≡ false) × (against t b ≡ false) × (length book < length (withWord t b)))
   unfolding entryCode
   entry-8 = (
     λ e. go (first lent (bookingCode t (length book) b) 8 e),
-    λ k. refuse-after lent (bookingCode t (length book) b) (k .0) ∙ booking-8 .1 (k .1, k .2),
+    λ k. refuse-after lent (bookingCode t (length book) b) (k .0) ∙ booking-8 .1 (k .1, k .2, k .3),
   )
     where
-      go : (lent ≡ 8) ⊎ ((lent ≡ 0) × (bookingCode t (length book) b ≡ 8)) → (lent ≡ 0) × (booked t b ≡ false) × (length book < length (insert t b))
+      go : (lent ≡ 8) ⊎ ((lent ≡ 0) × (bookingCode t (length book) b ≡ 8)) → (lent ≡ 0) × (told t b ≡ false) × (against t b ≡ false) × (length book < length (withWord t b))
       go (inl e) = absurd (omega (arith, e, lent-most))
-      go (inr k) = let f = booking-8 .0 (k .1) in (k .0, f .0, f .1)
+      go (inr k) = let f = booking-8 .0 (k .1) in (k .0, f .0, f .1, f .2)
 
   entry-most : entry ≤ 8
   unfolding entryCode
@@ -179,14 +171,14 @@ module _ (spoilt : Bool) (n : ℕ) (book : List ℕ) (books : ℕ) (sheet : List
       let k = rung (ltb (length sheet) (length (takeSheet n (take sheets sheet) t))) 9 0 8 (λ q. omega (arith, q)) .0 e in
       omega (arith, k .1)
 
-  take-ladder-8 : (takeCode spoilt n book books sheet sheets i j ≡ 8) ↔ ((lent ≡ 0) × (booked t b ≡ false) × (length book < length (insert t b)))
+  take-ladder-8 : (takeCode spoilt n book books sheet sheets i j ≡ 8) ↔ ((lent ≡ 0) × (told t b ≡ false) × (against t b ≡ false) × (length book < length (withWord t b)))
   unfolding takeCode
   take-ladder-8 = (
     λ e. go (first entry (innerCode n t sheet sheets) 8 e),
     λ k. let e = entry-8 .1 k in sym (refuse-first entry (innerCode n t sheet sheets) (λ q. omega (arith, e, q))) ∙ e,
   )
     where
-      go : (entry ≡ 8) ⊎ ((entry ≡ 0) × (innerCode n t sheet sheets ≡ 8)) → (lent ≡ 0) × (booked t b ≡ false) × (length book < length (insert t b))
+      go : (entry ≡ 8) ⊎ ((entry ≡ 0) × (innerCode n t sheet sheets ≡ 8)) → (lent ≡ 0) × (told t b ≡ false) × (against t b ≡ false) × (length book < length (withWord t b))
       go (inl e) = entry-8 .0 e
       go (inr k) = absurd (inner-only (k .1))
 
@@ -205,7 +197,7 @@ module _ (spoilt : Bool) (n : ℕ) (book : List ℕ) (books : ℕ) (sheet : List
   unfolding takeAnswer
   take-code =
       picked (takeCode spoilt n book books sheet sheets i j)
-      (done (books + 1) (length (takeSheet n (take sheets sheet) t)) (struckCount (take sheets sheet) (takeSheet n (take sheets sheet) t)) (addedCount (take sheets sheet) (takeSheet n (take sheets sheet) t)))
+      (done (length (withWord t b)) (length (takeSheet n (take sheets sheet) t)) (struckCount (take sheets sheet) (takeSheet n (take sheets sheet) t)) (addedCount (take sheets sheet) (takeSheet n (take sheets sheet) t)))
       0 books sheets refl
 
   module _ {book′ sheet′ : List ℕ} {r : Answer} (q : Taken spoilt n book books sheet sheets i j book′ sheet′ r) where
@@ -249,7 +241,7 @@ module _ (n : ℕ) (ts : List ℕ) (bookRoom sheetRoom : ℕ) where
   refused-8 (no-panel e) q = absurd (omega (arith, q))
   refused-8 (no-room e g) q = absurd (omega (arith, q))
   refused-8 (at-word ps w k c b l (invalid e)) q = absurd (omega (arith, q))
-  refused-8 (at-word ps w k c b l (contradicted u v m e f)) q = absurd (omega (arith, q))
+  refused-8 (at-word ps w k c b l (contradicted v e)) q = absurd (omega (arith, q))
   refused-8 (at-word ps w k c b l (book-full a g)) q = record { ps = ps; w = w; before = b; learned = l; agrees = a; many = g }
   refused-8 (at-word ps w k c b l (sheet-full a h g)) q = absurd (omega (arith, q))
 
@@ -260,7 +252,7 @@ module _ (n : ℕ) (ts : List ℕ) (bookRoom sheetRoom : ℕ) where
   refused-9 (no-panel e) q = absurd (omega (arith, q))
   refused-9 (no-room e g) q = inl (refl, e, omega (arith, g, fresh-length n))
   refused-9 (at-word ps w k c b l (invalid e)) q = absurd (omega (arith, q))
-  refused-9 (at-word ps w k c b l (contradicted u v m e f)) q = absurd (omega (arith, q))
+  refused-9 (at-word ps w k c b l (contradicted v e)) q = absurd (omega (arith, q))
   refused-9 (at-word ps w k c b l (book-full a g)) q = absurd (omega (arith, q))
   refused-9 (at-word ps w k c b l (sheet-full a h g)) q = inr (record { ps = ps; w = w; before = b; learned = l; agrees = a; book-fits = h; many = g })
 

@@ -5,11 +5,10 @@ use mathlib.Core.Bool.{Bool, true, false, not}
 use mathlib.Core.List.{List, [], _∷_, _++_}
 use Prim.Native.Nat.{ℕ, _≤_, _<_}
 use lib.ListN.{length, take}
-use Rattle.table.specs.Lists.{insert}
 use Rattle.panel.specs.Masks.{panelSize}
 use Rattle.panel.specs.Transitions.{transitionWord}
-use Rattle.prime.specs.Books.{booked, clash}
 use Rattle.prime.specs.Sheets.{goodSheet, freshSheet, takeSheet, sheetOf}
+use Rattle.book.specs.Books.{told, against, withWord, bookOf, clash}
 use Rattle.answers.specs.declared.Answer.{Answer}
 use Rattle.calls.specs.Take.{lentCode, entryCode}
 use Rattle.joining.specs.Joining.{Piece, bookIn, joinedBook, joinedSheet, GoodPieces}
@@ -22,7 +21,7 @@ use Rattle.recording.specs.declared.ReadAnswer.{ReadAnswer}
 use Rattle.writing.specs.SheetText.{sheetText}
 use Rattle.writing.specs.declared.WriteAnswer.{WriteAnswer}
 use Rattle.program.specs.Program.{refusalLine}
-use Rattle.handover.specs.Learning.{bookOf, Learnable, Before, Agrees}
+use Rattle.handover.specs.Learning.{Learnable, Before, Agrees}
 use Rattle.promises.specs.Printed.{Recorded, Prints}
 
 -- ---- fresh, and the start of a session
@@ -33,11 +32,11 @@ FreshNine n sheet r = (r .code ≡ 9) ↔ ((panelSize n ≡ true) × (length she
 
 -- ---- take, by itself and through a session
 
--- 8: none of 2 to 6 applies, nor 1 or 7 as the state is not booked, and the book with the transition needs more words than its slice
+-- 8: none of 2 to 6 applies, nor 1 or 7, and the book with the transition needs more words than its slice
 abbrev pub TakeEight : Bool → ℕ → List ℕ → ℕ → List ℕ → ℕ → ℕ → ℕ → Answer → Type 0
 TakeEight spoilt n book books sheet sheets i j r =
-    (r .code ≡ 8) ↔ ((lentCode spoilt n book books sheet sheets i j ≡ 0) × (booked (transitionWord i j) (take books book) ≡ false)
-    × (length book < length (insert (transitionWord i j) (take books book))))
+    (r .code ≡ 8) ↔ ((lentCode spoilt n book books sheet sheets i j ≡ 0) × (told (transitionWord i j) (take books book) ≡ false)
+    × (against (transitionWord i j) (take books book) ≡ false) × (length book < length (withWord (transitionWord i j) (take books book))))
 
 -- 9: none of 1 to 8 applies, and the sheet with the transition taken has more rules than its slice
 abbrev pub TakeNine : Bool → ℕ → List ℕ → ℕ → List ℕ → ℕ → ℕ → ℕ → Answer → Type 0

@@ -11,6 +11,7 @@ use Rattle.table.proofs.Counting.{missing-le}
 use Rattle.panel.specs.Masks.{panelSize}
 use Rattle.panel.specs.Transitions.{transitionWord}
 use Rattle.prime.specs.Sheets.{takeSheet, struckCount, addedCount}
+use Rattle.book.specs.Books.{withWord}
 use Rattle.sheet.specs.Taking.{tallyOf}
 use Rattle.answers.specs.Answers.{plain, done, answerIf}
 use Rattle.answers.specs.declared.Answer.{Answer}
@@ -47,7 +48,7 @@ module _ (s : Session) (book sheet : List ℕ) (i j : ℕ) where
   unfolding sessionAnswer takeAnswer
   code-is = picked code
     where
-      picked : (c : ℕ) → answerIf c (done (s .«book_count» + 1) (length new) (struckCount old new) (addedCount old new)) (plain c 0 (s .«book_count») (s .«sheet_count»)) .code ≡ c
+      picked : (c : ℕ) → answerIf c (done (length (withWord (transitionWord i j) (take (s .«book_count») book))) (length new) (struckCount old new) (addedCount old new)) (plain c 0 (s .«book_count») (s .«sheet_count»)) .code ≡ c
       picked zero = refl
       picked (suc c) = refl
 
@@ -67,10 +68,10 @@ module _ (s : Session) (book sheet : List ℕ) (i j : ℕ) where
         not-no true p = refl
         not-no false p = sym p
 
-    ready : Ready (s .n) book (s .«book_count») sheet (s .«sheet_count»)
-    ready = entry-ready (not (totalsFit s)) (s .n) book (s .«book_count») sheet (s .«sheet_count») i j entry refl entry-zero
+    ready : Ready (s .n) (transitionWord i j) book (s .«book_count») sheet (s .«sheet_count»)
+    ready = entry-ready (not (totalsFit s)) (s .n) book (s .«book_count») sheet (s .«sheet_count») i j entry refl entry-zero (transitionWord i j) refl
 
-    pub answer-is : sessionAnswer s book sheet i j ≡ done (s .«book_count» + 1) (length new) (struckCount old new) (addedCount old new)
+    pub answer-is : sessionAnswer s book sheet i j ≡ done (length (withWord (transitionWord i j) (take (s .«book_count») book))) (length new) (struckCount old new) (addedCount old new)
     unfolding sessionAnswer takeAnswer
     answer-is = answer-done code _ _ code-zero
 

@@ -20,10 +20,18 @@ plain-answer-requires-2 : tie.Need-plain-answer-requires-2
 plain-answer-requires-2 c κs = search needs
 
 slice-aggregate-apply-rules : tie.Need-slice-aggregate-apply-rules
-slice-aggregate-apply-rules c = sym (length-take-le _ _ (apply-none _ (now (c .before .before .before .before .before .args .sheet)) _ (c .before .before .before .before .before .args .x) _ (c .before .before .before .apply-code .ensures) (c .before .before .if1 .left) .1))
+slice-aggregate-apply-rules c =
+    let at-if1 = c .before .before in
+    let at-apply-code = at-if1 .before in
+    let start = at-apply-code .before .before in
+    sym (length-take-le _ _ (apply-none _ (now (start .args .sheet)) _ (start .args .x) _ (at-apply-code .apply-code .ensures) (at-if1 .if1 .left) .1))
 
 apply-rules-requires : tie.Need-apply-rules-requires
-apply-rules-requires c κs = let k = apply-none _ (now (c .before .before .before .before .before .args .sheet)) _ (c .before .before .before .before .before .args .x) _ (c .before .before .before .apply-code .ensures) (c .before .before .if1 .left) in (k .0, k .2)
+apply-rules-requires c κs =
+    let at-if1 = c .before .before in
+    let at-apply-code = at-if1 .before in
+    let start = at-apply-code .before .before in
+    let k = apply-none _ (now (start .args .sheet)) _ (start .args .x) _ (at-apply-code .apply-code .ensures) (at-if1 .if1 .left) in (k .0, k .2)
 
 returns-2 : tie.Need-returns-2
 returns-2 c = apply-done _ _ _ _ _ (c .before .before .before .before .apply-code .ensures) _ (c .before .before .before .if1 .left) (c .before .before .plain-answer2 .ensures) _ (c .apply-rules .ensures)

@@ -30,10 +30,24 @@ power-requires : tie.Need-power-requires
 power-requires c κs = size-of _ (sym (c .before .before .before .before .before .is-panel-size .ensures) ∙ not-false _ (c .before .before .before .before .if1 .left)) .1
 
 returns-4 : tie.Need-returns-4
-returns-4 c = apply-large _ _ _ _ _ (c .before .before .before .before .before .before .before .is-panel-size .ensures) (not-false _ (c .before .before .before .before .before .before .if1 .left)) (c .before .before .before .before .before .if2 .left) _ (c .before .before .before .is-good-sheet .ensures) (not-false _ (c .before .before .if3 .left)) _ (c .before .power .ensures .0) (c .if4 .taken)
+returns-4 c =
+    let at-power = c .before in
+    let at-if3 = at-power .before in
+    let at-is-good-sheet = at-if3 .before in
+    let at-if2 = at-is-good-sheet .before .before in
+    let at-if1 = at-if2 .before in
+    let at-is-panel-size = at-if1 .before in
+    apply-large _ _ _ _ _ (at-is-panel-size .is-panel-size .ensures) (not-false _ (at-if1 .if1 .left)) (at-if2 .if2 .left) _ (at-is-good-sheet .is-good-sheet .ensures) (not-false _ (at-if3 .if3 .left)) _ (at-power .power .ensures .0) (c .if4 .taken)
 
 returns-5 : tie.Need-returns-5
-returns-5 c = apply-ok _ _ _ _ _ (c .before .before .before .before .before .before .before .is-panel-size .ensures) (not-false _ (c .before .before .before .before .before .before .if1 .left)) (c .before .before .before .before .before .if2 .left) _ (c .before .before .before .is-good-sheet .ensures) (not-false _ (c .before .before .if3 .left)) _ (c .before .power .ensures .0) (c .if4 .left)
+returns-5 c =
+    let at-power = c .before in
+    let at-if3 = at-power .before in
+    let at-is-good-sheet = at-if3 .before in
+    let at-if2 = at-is-good-sheet .before .before in
+    let at-if1 = at-if2 .before in
+    let at-is-panel-size = at-if1 .before in
+    apply-ok _ _ _ _ _ (at-is-panel-size .is-panel-size .ensures) (not-false _ (at-if1 .if1 .left)) (at-if2 .if2 .left) _ (at-is-good-sheet .is-good-sheet .ensures) (not-false _ (at-if3 .if3 .left)) _ (at-power .power .ensures .0) (c .if4 .left)
 
 pub apply-code-spec : {M : Type 1} → statement M
 apply-code-spec =

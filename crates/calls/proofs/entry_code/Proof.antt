@@ -1,7 +1,7 @@
 -- `calls::entry_code` meets its contract.
 use mathlib.Core.Path.{sym, _∙_}
 use lib.Seq.{length-take-le}
-use Rattle.prime.proofs.Books.{book-e}
+use Rattle.book.proofs.Books.{book-e}
 use Rattle.calls.proofs.Codes.{lent-none}
 use Rattle.calls.proofs.Ends.{entry-lent, entry-booking, fits-ten}
 use borrow.Author.Needs.{needs}

@@ -28,7 +28,12 @@ same-length : tie.Need-same-length
 same-length c = search needs
 
 returns-2 : tie.Need-returns-2
-returns-2 c = fresh-done _ _ _ (c .before .before .before .before .before .before .before .before .before .before .fresh-code .ensures) (c .before .before .before .before .before .before .before .before .before .if1 .left) _ _ _ (c .before .before .before .before .before .before .before .write-fresh .ensures) (c .before .before .before .clear-from .ensures) (c .plain-answer2 .ensures)
+returns-2 c =
+    let at-clear-from = c .before .before .before in
+    let at-write-fresh = at-clear-from .before .before .before .before in
+    let at-if1 = at-write-fresh .before .before in
+    let at-fresh-code = at-if1 .before in
+    fresh-done _ _ _ (at-fresh-code .fresh-code .ensures) (at-if1 .if1 .left) _ _ _ (at-write-fresh .write-fresh .ensures) (at-clear-from .clear-from .ensures) (c .plain-answer2 .ensures)
 
 pub fresh-spec : {M : Type 1} → statement M
 fresh-spec =

@@ -29,28 +29,85 @@ is-good-book-requires : tie.Need-is-good-book-requires
 is-good-book-requires c κs = size-of _ (sym (c .before .before .before .before .before .is-panel-size .ensures) ∙ not-false _ (c .before .before .before .before .if1 .left)) .1
 
 returns-5 : tie.Need-returns-5
-returns-5 c = lent-bad-book _ _ _ _ _ _ _ _ _ (c .before .before .before .before .before .before .before .is-panel-size .ensures) (not-false _ (c .before .before .before .before .before .before .if1 .left)) (c .before .before .before .before .before .if2 .left) (c .before .before .before .before .if3 .left) (c .before .before .before .if4 .left) _ (c .before .is-good-book .ensures) (not-true _ (c .if5 .taken))
+returns-5 c =
+    let at-is-good-book = c .before in
+    let at-if4 = at-is-good-book .before .before in
+    let at-if3 = at-if4 .before in
+    let at-if2 = at-if3 .before in
+    let at-if1 = at-if2 .before in
+    let at-is-panel-size = at-if1 .before in
+    lent-bad-book _ _ _ _ _ _ _ _ _ (at-is-panel-size .is-panel-size .ensures) (not-false _ (at-if1 .if1 .left)) (at-if2 .if2 .left) (at-if3 .if3 .left) (at-if4 .if4 .left) _ (at-is-good-book .is-good-book .ensures) (not-true _ (c .if5 .taken))
 
 slice-aggregate-is-good-sheet : tie.Need-slice-aggregate-is-good-sheet
 slice-aggregate-is-good-sheet c = sym (length-take-le _ _ (c .before .before .before .before .if4 .left))
 
 is-good-sheet-requires : tie.Need-is-good-sheet-requires
-is-good-sheet-requires c κs = size-of _ (sym (c .before .before .before .before .before .before .before .before .is-panel-size .ensures) ∙ not-false _ (c .before .before .before .before .before .before .before .if1 .left)) .1
+is-good-sheet-requires c κs =
+    let at-if1 = c .before .before .before .before .before .before .before in
+    let at-is-panel-size = at-if1 .before in
+    size-of _ (sym (at-is-panel-size .is-panel-size .ensures) ∙ not-false _ (at-if1 .if1 .left)) .1
 
 returns-6 : tie.Need-returns-6
-returns-6 c = lent-bad-sheet _ _ _ _ _ _ _ _ _ (c .before .before .before .before .before .before .before .before .before .before .is-panel-size .ensures) (not-false _ (c .before .before .before .before .before .before .before .before .before .if1 .left)) (c .before .before .before .before .before .before .before .before .if2 .left) (c .before .before .before .before .before .before .before .if3 .left) (c .before .before .before .before .before .before .if4 .left) _ (c .before .before .before .before .is-good-book .ensures) (not-false _ (c .before .before .before .if5 .left)) _ (c .before .is-good-sheet .ensures) (not-true _ (c .if6 .taken))
+returns-6 c =
+    let at-is-good-sheet = c .before in
+    let at-if5 = at-is-good-sheet .before .before in
+    let at-is-good-book = at-if5 .before in
+    let at-if4 = at-is-good-book .before .before in
+    let at-if3 = at-if4 .before in
+    let at-if2 = at-if3 .before in
+    let at-if1 = at-if2 .before in
+    let at-is-panel-size = at-if1 .before in
+    lent-bad-sheet _ _ _ _ _ _ _ _ _ (at-is-panel-size .is-panel-size .ensures) (not-false _ (at-if1 .if1 .left)) (at-if2 .if2 .left) (at-if3 .if3 .left) (at-if4 .if4 .left) _ (at-is-good-book .is-good-book .ensures) (not-false _ (at-if5 .if5 .left)) _ (at-is-good-sheet .is-good-sheet .ensures) (not-true _ (c .if6 .taken))
 
 power-requires : tie.Need-power-requires
-power-requires c κs = size-of _ (sym (c .before .before .before .before .before .before .before .before .before .before .is-panel-size .ensures) ∙ not-false _ (c .before .before .before .before .before .before .before .before .before .if1 .left)) .1
+power-requires c κs =
+    let at-if1 = c .before .before .before .before .before .before .before .before .before in
+    let at-is-panel-size = at-if1 .before in
+    size-of _ (sym (at-is-panel-size .is-panel-size .ensures) ∙ not-false _ (at-if1 .if1 .left)) .1
 
 returns-7 : tie.Need-returns-7
-returns-7 c = lent-state _ _ _ _ _ _ _ _ _ (c .before .before .before .before .before .before .before .before .before .before .before .before .is-panel-size .ensures) (not-false _ (c .before .before .before .before .before .before .before .before .before .before .before .if1 .left)) (c .before .before .before .before .before .before .before .before .before .before .if2 .left) (c .before .before .before .before .before .before .before .before .before .if3 .left) (c .before .before .before .before .before .before .before .before .if4 .left) _ (c .before .before .before .before .before .before .is-good-book .ensures) (not-false _ (c .before .before .before .before .before .if5 .left)) _ (c .before .before .before .is-good-sheet .ensures) (not-false _ (c .before .before .if6 .left)) _ (c .before .power .ensures .0) (c .if7 .taken)
+returns-7 c =
+    let at-power = c .before in
+    let at-if6 = at-power .before in
+    let at-is-good-sheet = at-if6 .before in
+    let at-if5 = at-is-good-sheet .before .before in
+    let at-is-good-book = at-if5 .before in
+    let at-if4 = at-is-good-book .before .before in
+    let at-if3 = at-if4 .before in
+    let at-if2 = at-if3 .before in
+    let at-if1 = at-if2 .before in
+    let at-is-panel-size = at-if1 .before in
+    lent-state _ _ _ _ _ _ _ _ _ (at-is-panel-size .is-panel-size .ensures) (not-false _ (at-if1 .if1 .left)) (at-if2 .if2 .left) (at-if3 .if3 .left) (at-if4 .if4 .left) _ (at-is-good-book .is-good-book .ensures) (not-false _ (at-if5 .if5 .left)) _ (at-is-good-sheet .is-good-sheet .ensures) (not-false _ (at-if6 .if6 .left)) _ (at-power .power .ensures .0) (c .if7 .taken)
 
 returns-8 : tie.Need-returns-8
-returns-8 c = lent-next _ _ _ _ _ _ _ _ _ (c .before .before .before .before .before .before .before .before .before .before .before .before .before .is-panel-size .ensures) (not-false _ (c .before .before .before .before .before .before .before .before .before .before .before .before .if1 .left)) (c .before .before .before .before .before .before .before .before .before .before .before .if2 .left) (c .before .before .before .before .before .before .before .before .before .before .if3 .left) (c .before .before .before .before .before .before .before .before .before .if4 .left) _ (c .before .before .before .before .before .before .before .is-good-book .ensures) (not-false _ (c .before .before .before .before .before .before .if5 .left)) _ (c .before .before .before .before .is-good-sheet .ensures) (not-false _ (c .before .before .before .if6 .left)) _ (c .before .before .power .ensures .0) (c .before .if7 .left) (c .if8 .taken)
+returns-8 c =
+    let at-if7 = c .before in
+    let at-power = at-if7 .before in
+    let at-if6 = at-power .before in
+    let at-is-good-sheet = at-if6 .before in
+    let at-if5 = at-is-good-sheet .before .before in
+    let at-is-good-book = at-if5 .before in
+    let at-if4 = at-is-good-book .before .before in
+    let at-if3 = at-if4 .before in
+    let at-if2 = at-if3 .before in
+    let at-if1 = at-if2 .before in
+    let at-is-panel-size = at-if1 .before in
+    lent-next _ _ _ _ _ _ _ _ _ (at-is-panel-size .is-panel-size .ensures) (not-false _ (at-if1 .if1 .left)) (at-if2 .if2 .left) (at-if3 .if3 .left) (at-if4 .if4 .left) _ (at-is-good-book .is-good-book .ensures) (not-false _ (at-if5 .if5 .left)) _ (at-is-good-sheet .is-good-sheet .ensures) (not-false _ (at-if6 .if6 .left)) _ (at-power .power .ensures .0) (at-if7 .if7 .left) (c .if8 .taken)
 
 returns-9 : tie.Need-returns-9
-returns-9 c = lent-ok _ _ _ _ _ _ _ _ _ (c .before .before .before .before .before .before .before .before .before .before .before .before .before .is-panel-size .ensures) (not-false _ (c .before .before .before .before .before .before .before .before .before .before .before .before .if1 .left)) (c .before .before .before .before .before .before .before .before .before .before .before .if2 .left) (c .before .before .before .before .before .before .before .before .before .before .if3 .left) (c .before .before .before .before .before .before .before .before .before .if4 .left) _ (c .before .before .before .before .before .before .before .is-good-book .ensures) (not-false _ (c .before .before .before .before .before .before .if5 .left)) _ (c .before .before .before .before .is-good-sheet .ensures) (not-false _ (c .before .before .before .if6 .left)) _ (c .before .before .power .ensures .0) (c .before .if7 .left) (c .if8 .left)
+returns-9 c =
+    let at-if7 = c .before in
+    let at-power = at-if7 .before in
+    let at-if6 = at-power .before in
+    let at-is-good-sheet = at-if6 .before in
+    let at-if5 = at-is-good-sheet .before .before in
+    let at-is-good-book = at-if5 .before in
+    let at-if4 = at-is-good-book .before .before in
+    let at-if3 = at-if4 .before in
+    let at-if2 = at-if3 .before in
+    let at-if1 = at-if2 .before in
+    let at-is-panel-size = at-if1 .before in
+    lent-ok _ _ _ _ _ _ _ _ _ (at-is-panel-size .is-panel-size .ensures) (not-false _ (at-if1 .if1 .left)) (at-if2 .if2 .left) (at-if3 .if3 .left) (at-if4 .if4 .left) _ (at-is-good-book .is-good-book .ensures) (not-false _ (at-if5 .if5 .left)) _ (at-is-good-sheet .is-good-sheet .ensures) (not-false _ (at-if6 .if6 .left)) _ (at-power .power .ensures .0) (at-if7 .if7 .left) (c .if8 .left)
 
 pub lent-code-spec : {M : Type 1} → statement M
 lent-code-spec =

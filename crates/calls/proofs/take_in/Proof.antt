@@ -18,7 +18,9 @@ count-changes-requires : tie.Need-count-changes-requires
 count-changes-requires c κs = search needs
 
 add-if1 : tie.Need-add-if1
-add-if1 c = omega (arith, added-few _ (c .before .before .before .before .args .t) _ _ (now (c .before .before .before .before .args .sheet)) _ (c .before .before .before .before .pre) _ (c .count-changes .ensures), sheets-few _ (c .before .before .before .before .args .t) _ _ (now (c .before .before .before .before .args .sheet)) _ (c .before .before .before .before .pre) _ (c .count-changes .ensures))
+add-if1 c =
+    let start = c .before .before .before .before in
+    omega (arith, added-few _ (start .args .t) _ _ (now (start .args .sheet)) _ (start .pre) _ (c .count-changes .ensures), sheets-few _ (start .args .t) _ _ (now (start .args .sheet)) _ (start .pre) _ (c .count-changes .ensures))
 
 sub-if1 : tie.Need-sub-if1
 sub-if1 c = omega (arith, count-is _ (c .before .before .before .before .args .t) _ _ (now (c .before .before .before .before .args .sheet)) _ (c .before .before .before .before .pre) _ (c .count-changes .ensures))
@@ -32,14 +34,17 @@ same-length c = search needs
 returns : tie.Need-returns
 returns c = inner-full _ _ _ _ _ _ (c .before .before .before .before .before .before .pre) _ (c .before .before .count-changes .ensures) _ refl (c .before .if1 .taken) _ (c .plain-answer .ensures)
 
-insert-sorted-requires : tie.Need-insert-sorted-requires
-insert-sorted-requires c κs = (c .before .before .before .before .before .before .pre .room, c .before .before .before .before .before .before .pre .in-order)
+put-word-requires : tie.Need-put-word-requires
+put-word-requires c κs =
+    let ready = c .before .before .before .before .before .before .pre in
+    ((ready .books-in, ready .in-order, ready .untold), ready .room)
 
 take-rules-requires : tie.Need-take-rules-requires
-take-rules-requires c κs = (c .before .before .before .before .before .before .before .before .before .before .pre .small, c .before .before .before .before .before .before .before .before .before .before .pre .sheets-in, c .before .before .before .before .before .before .before .before .before .before .pre .good-sheet, inner-room _ _ _ _ _ _ (c .before .before .before .before .before .before .before .before .before .before .pre) _ (c .before .before .before .before .before .before .count-changes .ensures) _ refl (c .before .before .before .before .before .if1 .left))
-
-add-done-answer : tie.Need-add-done-answer
-add-done-answer c = search needs
+take-rules-requires c κs =
+    let at-if1 = c .before .before .before .before .before in
+    let at-count-changes = at-if1 .before in
+    let start = at-count-changes .before .before .before .before in
+    (start .pre .small, start .pre .sheets-in, start .pre .good-sheet, inner-room _ _ _ _ _ _ (start .pre) _ (at-count-changes .count-changes .ensures) _ refl (at-if1 .if1 .left))
 
 done-answer-requires : tie.Need-done-answer-requires
 done-answer-requires c κs = search needs
@@ -51,7 +56,12 @@ same-length-3 : tie.Need-same-length-3
 same-length-3 c = search needs
 
 returns-2 : tie.Need-returns-2
-returns-2 c = inner-done _ _ _ _ _ _ (c .before .before .before .before .before .before .before .before .before .before .before .before .before .before .pre) _ (c .before .before .before .before .before .before .before .before .before .before .count-changes .ensures) _ refl (c .before .before .before .before .before .before .before .before .before .if1 .left) _ _ _ (c .before .before .before .before .before .before .before .insert-sorted .ensures) (c .before .before .before .take-rules .ensures) _ (c .done-answer .ensures)
+returns-2 c =
+    let rules = c .before .before .before in
+    let word = rules .before .before .before .before in
+    let test = word .before .before in
+    let count = test .before in
+    inner-done _ _ _ _ _ _ (count .before .before .before .before .pre) _ (count .count-changes .ensures) _ refl (test .if1 .left) _ _ _ _ (word .put-word .ensures) (rules .take-rules .ensures) _ (c .done-answer .ensures)
 
 pub take-in-spec : {M : Type 1} → statement M
 take-in-spec =
@@ -65,9 +75,8 @@ take-in-spec =
     plain-answer-requires
     same-length
     returns
-    insert-sorted-requires
+    put-word-requires
     take-rules-requires
-    add-done-answer
     done-answer-requires
     same-length-2
     same-length-3

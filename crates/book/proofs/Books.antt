@@ -1,7 +1,7 @@
--- Good books: one word for a state, words in order, and the union of two.
+-- Good books: valid words, one for a state, in order.
 use mathlib.Core.Path.{_≡_, refl, sym, ap, _∙_, subst}
 use mathlib.Core.Logic.{_⊎_, inl, inr}
-use mathlib.Core.Bool.{Bool, true, false, not}
+use mathlib.Core.Bool.{Bool, true, false, _&&_}
 use mathlib.Core.List.{List, [], _∷_, List·Memᴰ as Mem, List·Memᴰ·head as here, List·Memᴰ·tail as there, List·Memᴰ·cases-cons, List·Memᴰ·not-nil}
 use Prim.Native.Nat.{ℕ, _≤_, _<_}
 use native.Mathlib.Nat.{le-of-lt}
@@ -9,14 +9,13 @@ use native.Mathlib.Omega.{arith}
 use lib.Dec.{ltb}
 use lib.Arith.{lt-of-le-ne}
 use borrow.Author.Tests.{ltb-true, ltb-false, lt-ltb}
-use Rattle.table.specs.Lists.{all, has, pick, insert, increasing, filter, insertAll}
+use Rattle.table.specs.Lists.{all, pick, insert, increasing}
 use Rattle.panel.specs.Transitions.{state, validTransition}
 use Rattle.panel.proofs.Transitions.{Transition, transition-e, transition-i, state-up, word-up}
-use Rattle.prime.specs.Books.{statesUp, goodBook, union}
-use Rattle.table.proofs.Basics.{and-l, and-r, and-i, all-e, all-i, not-i, not-e, either, filter-e, filter-i}
-use Rattle.table.proofs.Increasing.{cons-increasing, filter-increasing}
-use Rattle.table.proofs.Counting.{has-e, has-i}
-use Rattle.table.proofs.Inserting.{insert-e, insertAll-e, insertAll-old, insertAll-new, insertAll-increasing, increasing-distinct}
+use Rattle.book.specs.Books.{statesUp, goodBook}
+use Rattle.table.proofs.Basics.{and-l, and-r, and-i, all-e, all-i}
+use Rattle.table.proofs.Increasing.{cons-increasing}
+use Rattle.table.proofs.Inserting.{insert-e}
 
 -- what a good book is
 pub record GoodBook (n : ℕ) (b : List ℕ) : Type 0 where
@@ -95,32 +94,3 @@ book-increasing (t ∷ b) e =
     cons-increasing t b
     (λ u m. word-up t u (ltb-true (state t) (state u) (all-e (λ v. ltb (state t) (state v)) m (and-l (all (λ v. ltb (state t) (state v)) b) (statesUp b) e))))
     (book-increasing b (and-r (all (λ v. ltb (state t) (state v)) b) (statesUp b) e))
-
--- ---- the union of two books
-
-pub union-e : (b c : List ℕ) (t : ℕ) → Mem t (union b c) → Mem t b ⊎ Mem t c
-unfolding union
-union-e b c t m = go (insertAll-e (filter (λ u. not (has u b)) c) b t m)
-  where
-    go : Mem t (filter (λ u. not (has u b)) c) ⊎ Mem t b → Mem t b ⊎ Mem t c
-    go (inl k) = inr (filter-e (λ u. not (has u b)) c k .0)
-    go (inr k) = inl k
-
-pub union-l : (b c : List ℕ) (t : ℕ) → Mem t b → Mem t (union b c)
-unfolding union
-union-l b c t m = insertAll-old (filter (λ u. not (has u b)) c) m
-
-pub union-r : (b c : List ℕ) (t : ℕ) → Mem t c → Mem t (union b c)
-unfolding union
-union-r b c t m = go (either (has t b))
-  where
-    go : (has t b ≡ true) ⊎ (has t b ≡ true → ⊥) → Mem t (insertAll (filter (λ u. not (has u b)) c) b)
-    go (inl e) = insertAll-old (filter (λ u. not (has u b)) c) (has-e t b e)
-    go (inr f) = insertAll-new b (filter-i (λ u. not (has u b)) m (not-i (has t b) f))
-
-pub union-increasing : (b c : List ℕ) → increasing b ≡ true → increasing c ≡ true → increasing (union b c) ≡ true
-unfolding union
-union-increasing b c p q =
-    insertAll-increasing (filter (λ u. not (has u b)) c) b p
-    (increasing-distinct (filter (λ u. not (has u b)) c) (filter-increasing (λ u. not (has u b)) c q))
-    (λ x m k. not-e (has x b) (filter-e (λ u. not (has u b)) c m .1) (has-i x b k))
