@@ -1,7 +1,6 @@
 -- Answers: a code, a place, both counts, struck and added; and the order in which refusals are asked.
 use Prim.Native.Nat.{ℕ, zero, suc}
 use mathlib.Core.Bool.{Bool, true, false}
-use mathlib.Core.List.{List}
 use Rattle.answers.specs.declared.Answer.{Answer}
 
 -- refuse with the code where the test passes, else go on
@@ -17,12 +16,7 @@ plain code place books sheets = record { code = code; place = place; «book_coun
 abbrev pub done : ℕ → ℕ → ℕ → ℕ → Answer
 done books sheets struck added = record { code = 0; place = 0; «book_count» = books; «sheet_count» = sheets; struck = struck; added = added }
 
--- the first answer where the code is 0, else the second
-abbrev pub answerIf : ℕ → Answer → Answer → Answer
-answerIf zero a b = a
-answerIf (suc c) a b = b
-
--- the first words where the code is 0, else the second
-abbrev pub wordsIf : ℕ → List ℕ → List ℕ → List ℕ
-wordsIf zero xs ys = xs
-wordsIf (suc c) xs ys = ys
+-- the first where the code is 0, else the second
+abbrev pub ifDone : {A : Type 0} → ℕ → A → A → A
+ifDone zero a b = a
+ifDone (suc c) a b = b

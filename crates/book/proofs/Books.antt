@@ -1,7 +1,7 @@
 -- Good books: valid words, one for a state, in order.
 use mathlib.Core.Path.{_≡_, refl, sym, ap, _∙_, subst}
 use mathlib.Core.Logic.{_⊎_, inl, inr}
-use mathlib.Core.Bool.{Bool, true, false, _&&_}
+use mathlib.Core.Bool.{Bool, true, false, _&&_, cond}
 use mathlib.Core.List.{List, [], _∷_, List·Memᴰ as Mem, List·Memᴰ·head as here, List·Memᴰ·tail as there, List·Memᴰ·cases-cons, List·Memᴰ·not-nil}
 use Prim.Native.Nat.{ℕ, _≤_, _<_}
 use native.Mathlib.Nat.{le-of-lt}
@@ -9,7 +9,7 @@ use native.Mathlib.Omega.{arith}
 use lib.Dec.{ltb}
 use lib.Arith.{lt-of-le-ne}
 use borrow.Author.Tests.{ltb-true, ltb-false, lt-ltb}
-use Rattle.table.specs.Lists.{all, pick, insert, increasing}
+use Rattle.table.specs.Lists.{all, insert, increasing}
 use Rattle.panel.specs.Transitions.{state, validTransition}
 use Rattle.panel.proofs.Transitions.{Transition, transition-e, transition-i, state-up, word-up}
 use Rattle.book.specs.Books.{statesUp, goodBook}
@@ -64,7 +64,7 @@ insert-up t (u ∷ b) e f = go (ltb u t) refl (insert-up t b later (λ v m. f v 
         lt-ltb (state u) (state v) (subst (λ (x : ℕ). state u < state x) (sym p) (lt-of-le-ne (state-up u t l) (λ q. f u (here refl) q)))
     back l v (inr m) = lt-ltb (state u) (state v) (over v m)
 
-    go : (a : Bool) → ltb u t ≡ a → statesUp (insert t b) ≡ true → statesUp (pick a (u ∷ insert t b) (t ∷ u ∷ b)) ≡ true
+    go : (a : Bool) → ltb u t ≡ a → statesUp (insert t b) ≡ true → statesUp (cond a (u ∷ insert t b) (t ∷ u ∷ b)) ≡ true
     go false p ih =
         and-i (all (λ v. ltb (state t) (state v)) (u ∷ b)) (statesUp (u ∷ b))
         (all-i (λ v. ltb (state t) (state v)) (u ∷ b) (λ v m. front (ltb-false u t p) v (List·Memᴰ·cases-cons m))) e

@@ -1,14 +1,14 @@
 -- A word and a book: when it is told, when it is against the book, and the book with it.
 use mathlib.Core.Path.{_≡_, refl, sym, ap, _∙_}
 use mathlib.Core.Logic.{_⊎_, inl, inr}
-use mathlib.Core.Bool.{Bool, true, false, not, _&&_, false≢true}
+use mathlib.Core.Bool.{Bool, true, false, not, _&&_, false≢true, cond}
 use mathlib.Core.List.{List, List·Memᴰ as Mem, Memᴰ·cast}
 use Prim.Native.Nat.{ℕ, suc, _≤_}
 use native.Mathlib.Omega.{arith}
 use lib.Dec.{eqb}
 use lib.ListN.{length}
 use borrow.Author.Tests.{eqb-true, eqb-false, eq-eqb, ne-eqb}
-use Rattle.table.specs.Lists.{has, pick, insert, increasing}
+use Rattle.table.specs.Lists.{has, insert, increasing}
 use Rattle.table.proofs.Basics.{and-l, and-r, and-i, not-i, not-e, any-e, any-i, same-test, false-test}
 use Rattle.table.proofs.Counting.{has-e, has-i}
 use Rattle.table.proofs.Inserting.{insert-e, insert-new, insert-old, insert-length, insert-increasing}
@@ -107,12 +107,12 @@ module _ (t : ℕ) (b : List ℕ) where
   -- told: the book stays
   pub with-told : told t b ≡ true → withWord t b ≡ b
   unfolding withWord
-  with-told e = ap (λ (a : Bool). pick a b (insert t b)) e
+  with-told e = ap (λ (a : Bool). cond a b (insert t b)) e
 
   -- not told: it is put in its place
   pub with-untold : told t b ≡ false → withWord t b ≡ insert t b
   unfolding withWord
-  with-untold e = ap (λ (a : Bool). pick a b (insert t b)) e
+  with-untold e = ap (λ (a : Bool). cond a b (insert t b)) e
 
   pub with-longer : told t b ≡ false → length (withWord t b) ≡ suc (length b)
   with-longer e = ap length (with-untold e) ∙ insert-length t b
@@ -128,7 +128,7 @@ module _ (t : ℕ) (b : List ℕ) where
   unfolding withWord
   with-e u m = go (told t b) m
     where
-      go : (a : Bool) → Mem u (pick a b (insert t b)) → (u ≡ t) ⊎ Mem u b
+      go : (a : Bool) → Mem u (cond a b (insert t b)) → (u ≡ t) ⊎ Mem u b
       go true k = inr k
       go false k = insert-e t b u k
 
@@ -136,7 +136,7 @@ module _ (t : ℕ) (b : List ℕ) where
   unfolding withWord
   with-i u m = go (told t b) refl m
     where
-      go : (a : Bool) → told t b ≡ a → (u ≡ t) ⊎ Mem u b → Mem u (pick a b (insert t b))
+      go : (a : Bool) → told t b ≡ a → (u ≡ t) ⊎ Mem u b → Mem u (cond a b (insert t b))
       go true e (inl q) = Memᴰ·cast q (told-e t b e)
       go true e (inr k) = k
       go false e (inl q) = Memᴰ·cast q (insert-new t b)
@@ -146,7 +146,7 @@ module _ (t : ℕ) (b : List ℕ) where
   unfolding withWord
   with-increasing up = go (told t b) refl
     where
-      go : (a : Bool) → told t b ≡ a → increasing (pick a b (insert t b)) ≡ true
+      go : (a : Bool) → told t b ≡ a → increasing (cond a b (insert t b)) ≡ true
       go true e = up
       go false e = insert-increasing t b up (untold t b e)
 
@@ -155,7 +155,7 @@ module _ (t : ℕ) (b : List ℕ) where
   unfolding withWord
   with-up up f = go (told t b) refl
     where
-      go : (a : Bool) → told t b ≡ a → statesUp (pick a b (insert t b)) ≡ true
+      go : (a : Bool) → told t b ≡ a → statesUp (cond a b (insert t b)) ≡ true
       go true e = up
       go false e = insert-up t b up (new-state t b e f)
 

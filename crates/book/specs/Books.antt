@@ -1,10 +1,10 @@
 -- Books: transition words in order of their states, each state once; what a word is to a book, and the book of a list of words.
 use mathlib.Core.Path.{_≡_}
-use mathlib.Core.Bool.{Bool, true, false, not, _&&_}
+use mathlib.Core.Bool.{Bool, true, false, not, _&&_, cond}
 use mathlib.Core.List.{List, [], _∷_, List·Memᴰ as Mem}
 use Prim.Native.Nat.{ℕ}
 use lib.Dec.{eqb, ltb}
-use Rattle.table.specs.Lists.{any, all, has, pick, insert}
+use Rattle.table.specs.Lists.{any, all, has, insert}
 use Rattle.panel.specs.Transitions.{state, next, validTransition}
 
 -- ---- good books
@@ -40,7 +40,7 @@ OneNext ts = (t : ℕ) → Mem t ts → against t ts ≡ false
 
 -- the book with the word t: in its place, unless it is told already
 unfoldable pub withWord : ℕ → List ℕ → List ℕ
-withWord t b = pick (told t b) b (insert t b)
+withWord t b = cond (told t b) b (insert t b)
 
 -- the book with all words of a list
 abbrev pub withAll : List ℕ → List ℕ → List ℕ

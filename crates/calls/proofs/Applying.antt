@@ -11,10 +11,10 @@ use Rattle.table.proofs.Basics.{and-l}
 use Rattle.panel.specs.Masks.{panelSize}
 use Rattle.panel.specs.Rules.{validRule}
 use Rattle.prime.specs.Sheets.{goodSheet, antichain, applySheet}
-use Rattle.answers.specs.Answers.{plain}
+use Rattle.answers.specs.Answers.{plain, ifDone}
 use Rattle.answers.specs.declared.Answer.{Answer}
 use Rattle.answers.proofs.Laws.{refuse-none}
-use Rattle.calls.specs.Apply.{applyCode, stateIf, applyAnswer}
+use Rattle.calls.specs.Apply.{applyCode, applyAnswer}
 use Rattle.calls.specs.declared.Applied.{Applied}
 use Rattle.calls.proofs.Codes.{size-of, not-no}
 
@@ -59,11 +59,11 @@ module _ (n : ℕ) (sheet : List ℕ) (sheets x c : ℕ) (ec : c ≡ applyCode n
   unfolding applyAnswer both
   apply-refused f er = ap₂ both (er ∙ ap (λ (k : ℕ). plain k 0 0 0) ec) (sym (none (applyCode n sheet sheets x) (λ q. f (ec ∙ q))))
     where
-      none : (k : ℕ) → (k ≡ 0 → ⊥) → stateIf k (applySheet n (take sheets sheet) x) ≡ 0
+      none : (k : ℕ) → (k ≡ 0 → ⊥) → ifDone k (applySheet n (take sheets sheet) x) 0 ≡ 0
       none zero g = absurd (g refl)
       none (suc k) g = refl
 
   pub apply-done : c ≡ 0 → r ≡ plain 0 0 0 0 → (y : ℕ) → y ≡ applySheet n (take sheets sheet) x → record { answer = r; state = y } ≡ applyAnswer n sheet sheets x
   unfolding applyAnswer both
   apply-done e er y ey =
-      ap₂ both (er ∙ ap (λ (k : ℕ). plain k 0 0 0) (sym e ∙ ec)) (ey ∙ ap (λ (k : ℕ). stateIf k (applySheet n (take sheets sheet) x)) (sym e ∙ ec))
+      ap₂ both (er ∙ ap (λ (k : ℕ). plain k 0 0 0) (sym e ∙ ec)) (ey ∙ ap (λ (k : ℕ). ifDone k (applySheet n (take sheets sheet) x) 0) (sym e ∙ ec))

@@ -22,7 +22,7 @@ use Rattle.book.proofs.Finding.{stands-of-at, told-of-at, against-of-at, told-o
 use Rattle.answers.specs.Answers.{refuse}
 use Rattle.answers.proofs.Laws.{refuse-none}
 use Rattle.calls.specs.Fresh.{freshCode}
-use Rattle.calls.specs.Take.{lentCode, bookingCode}
+use Rattle.calls.specs.Take.{givenCode, bookingCode}
 
 -- a test whose negation failed passes
 pub not-no : (b : Bool) → not b ≡ false → b ≡ true
@@ -53,50 +53,50 @@ module _ (n room : ℕ) (x : Bool) (ex : x ≡ panelSize n) where
 -- ---- the refusals 2 to 6 of a take
 
 module _ (spoilt : Bool) (n : ℕ) (book : List ℕ) (books : ℕ) (sheet : List ℕ) (sheets i j : ℕ) (x : Bool) (ex : x ≡ panelSize n) where
-  pub lent-size : x ≡ false → 2 ≡ lentCode spoilt n book books sheet sheets i j
-  unfolding lentCode
-  lent-size e = sym (simp (sym ex ∙ e))
+  pub given-size : x ≡ false → 2 ≡ givenCode spoilt n book books sheet sheets i j
+  unfolding givenCode
+  given-size e = sym (simp (sym ex ∙ e))
 
   module _ (e : x ≡ true) where
-    pub lent-spoilt : spoilt ≡ true → 3 ≡ lentCode spoilt n book books sheet sheets i j
-    unfolding lentCode
-    lent-spoilt f = sym (simp (sym ex ∙ e, f))
+    pub given-spoilt : spoilt ≡ true → 3 ≡ givenCode spoilt n book books sheet sheets i j
+    unfolding givenCode
+    given-spoilt f = sym (simp (sym ex ∙ e, f))
 
     module _ (f : spoilt ≡ false) where
-      pub lent-books : length book < books → 3 ≡ lentCode spoilt n book books sheet sheets i j
-      unfolding lentCode
-      lent-books l = sym (simp (sym ex ∙ e, f, lt-ltb (length book) books l))
+      pub given-books : length book < books → 3 ≡ givenCode spoilt n book books sheet sheets i j
+      unfolding givenCode
+      given-books l = sym (simp (sym ex ∙ e, f, lt-ltb (length book) books l))
 
       module _ (lb : books ≤ length book) where
-        pub lent-sheets : length sheet < sheets → 3 ≡ lentCode spoilt n book books sheet sheets i j
-        unfolding lentCode
-        lent-sheets l = sym (simp (sym ex ∙ e, f, le-ltb (length book) books lb, lt-ltb (length sheet) sheets l))
+        pub given-sheets : length sheet < sheets → 3 ≡ givenCode spoilt n book books sheet sheets i j
+        unfolding givenCode
+        given-sheets l = sym (simp (sym ex ∙ e, f, le-ltb (length book) books lb, lt-ltb (length sheet) sheets l))
 
         module _ (ls : sheets ≤ length sheet) (y : Bool) (ey : y ≡ goodBook n (take books book)) where
-          pub lent-bad-book : y ≡ false → 4 ≡ lentCode spoilt n book books sheet sheets i j
-          unfolding lentCode
-          lent-bad-book g = sym (simp (sym ex ∙ e, f, le-ltb (length book) books lb, le-ltb (length sheet) sheets ls, sym ey ∙ g))
+          pub given-bad-book : y ≡ false → 4 ≡ givenCode spoilt n book books sheet sheets i j
+          unfolding givenCode
+          given-bad-book g = sym (simp (sym ex ∙ e, f, le-ltb (length book) books lb, le-ltb (length sheet) sheets ls, sym ey ∙ g))
 
           module _ (g : y ≡ true) (z : Bool) (ez : z ≡ goodSheet n (take sheets sheet)) where
-            pub lent-bad-sheet : z ≡ false → 5 ≡ lentCode spoilt n book books sheet sheets i j
-            unfolding lentCode
-            lent-bad-sheet h = sym (simp (sym ex ∙ e, f, le-ltb (length book) books lb, le-ltb (length sheet) sheets ls, sym ey ∙ g, sym ez ∙ h))
+            pub given-bad-sheet : z ≡ false → 5 ≡ givenCode spoilt n book books sheet sheets i j
+            unfolding givenCode
+            given-bad-sheet h = sym (simp (sym ex ∙ e, f, le-ltb (length book) books lb, le-ltb (length sheet) sheets ls, sym ey ∙ g, sym ez ∙ h))
 
             module _ (h : z ≡ true) (p : ℕ) (ep : p ≡ 2 ^ n) where
-              pub lent-state : p ≤ i → 6 ≡ lentCode spoilt n book books sheet sheets i j
-              unfolding lentCode
-              lent-state l =
+              pub given-state : p ≤ i → 6 ≡ givenCode spoilt n book books sheet sheets i j
+              unfolding givenCode
+              given-state l =
                   sym (simp (sym ex ∙ e, f, le-ltb (length book) books lb, le-ltb (length sheet) sheets ls, sym ey ∙ g, sym ez ∙ h, ap (ltb i) (sym ep) ∙ le-ltb i p l))
 
               module _ (li : i < p) where
-                pub lent-next : p ≤ j → 6 ≡ lentCode spoilt n book books sheet sheets i j
-                unfolding lentCode
-                lent-next l =
+                pub given-next : p ≤ j → 6 ≡ givenCode spoilt n book books sheet sheets i j
+                unfolding givenCode
+                given-next l =
                     sym (simp (sym ex ∙ e, f, le-ltb (length book) books lb, le-ltb (length sheet) sheets ls, sym ey ∙ g, sym ez ∙ h, ap (ltb i) (sym ep) ∙ lt-ltb i p li, ap (ltb j) (sym ep) ∙ le-ltb j p l))
 
-                pub lent-ok : j < p → 0 ≡ lentCode spoilt n book books sheet sheets i j
-                unfolding lentCode
-                lent-ok l =
+                pub given-ok : j < p → 0 ≡ givenCode spoilt n book books sheet sheets i j
+                unfolding givenCode
+                given-ok l =
                     sym (simp (sym ex ∙ e, f, le-ltb (length book) books lb, le-ltb (length sheet) sheets ls, sym ey ∙ g, sym ez ∙ h, ap (ltb i) (sym ep) ∙ lt-ltb i p li, ap (ltb j) (sym ep) ∙ lt-ltb j p l))
 
 -- what is known of the slices once nothing refused
@@ -109,9 +109,9 @@ pub record Lent (n : ℕ) (book : List ℕ) (books : ℕ) (sheet : List ℕ) (sh
   pub state-lt : i < 2 ^ n
   pub next-lt : j < 2 ^ n
 
-pub lent-none : (spoilt : Bool) (n : ℕ) (book : List ℕ) (books : ℕ) (sheet : List ℕ) (sheets i j : ℕ) → lentCode spoilt n book books sheet sheets i j ≡ 0 → Lent n book books sheet sheets i j
-unfolding lentCode
-lent-none spoilt n book books sheet sheets i j e =
+pub given-none : (spoilt : Bool) (n : ℕ) (book : List ℕ) (books : ℕ) (sheet : List ℕ) (sheets i j : ℕ) → givenCode spoilt n book books sheet sheets i j ≡ 0 → Lent n book books sheet sheets i j
+unfolding givenCode
+given-none spoilt n book books sheet sheets i j e =
     let a = refuse-none (not (panelSize n)) 1 _ e in
     let b = refuse-none (spoilt || (ltb (length book) books || ltb (length sheet) sheets)) 2 _ (a .1) in
     let c = refuse-none (not (goodBook n (take books book))) 3 _ (b .1) in

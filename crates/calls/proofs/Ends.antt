@@ -27,12 +27,12 @@ use Rattle.book.proofs.Books.{book-e}
 use Rattle.sheet.specs.Taking.{tallyOf}
 use Rattle.sheet.specs.declared.Tally.{Tally}
 use Rattle.sheet.proofs.Fresh.{fresh-length}
-use Rattle.answers.specs.Answers.{refuse, plain, done, answerIf, wordsIf}
+use Rattle.answers.specs.Answers.{refuse, plain, done, ifDone}
 use Rattle.answers.specs.declared.Answer.{Answer}
-use Rattle.answers.proofs.Laws.{answer-refused, words-refused, answer-done, words-done, refuse-none, refuse-first, refuse-after, refuse-both}
+use Rattle.answers.proofs.Laws.{refuse-none, refuse-first, refuse-after, refuse-both, if-refused, if-done}
 use Rattle.calls.specs.Fresh.{freshCode, freshAnswer, freshWords, Fresh}
-use Rattle.calls.specs.Take.{lentCode, bookingCode, entryCode, takeCode, innerCode, innerAnswer, Ready, Inner, takeAnswer, takeBook, takeWords, Taken}
-use Rattle.calls.proofs.Codes.{not-no, size-of, Lent, lent-none, booking-none}
+use Rattle.calls.specs.Take.{givenCode, bookingCode, entryCode, takeCode, innerCode, innerAnswer, Ready, Inner, takeAnswer, takeBook, takeWords, Taken}
+use Rattle.calls.proofs.Codes.{not-no, size-of, Lent, given-none, booking-none}
 
 same-done : {b b′ p p′ q q′ u u′ : ℕ} → b ≡ b′ → p ≡ p′ → q ≡ q′ → u ≡ u′ → done b p q u ≡ done b′ p′ q′ u′
 same-done e0 e1 e2 e3 = λ x. done (e0 x) (e1 x) (e2 x) (e3 x)
@@ -52,8 +52,8 @@ module _ (n : ℕ) (s : List ℕ) (c : ℕ) (ec : c ≡ freshCode n (length s)) 
   fresh-refused f r er =
       let g : freshCode n (length s) ≡ 0 → ⊥ = λ e. f (ec ∙ e) in
       record {
-        answer = er ∙ ap (λ (k : ℕ). plain k 0 0 0) ec ∙ sym (answer-refused (freshCode n (length s)) _ _ g);
-        words = sym (words-refused (freshCode n (length s)) _ _ g);
+        answer = er ∙ ap (λ (k : ℕ). plain k 0 0 0) ec ∙ sym (if-refused (freshCode n (length s)) _ _ g);
+        words = sym (if-refused (freshCode n (length s)) _ _ g);
       }
 
   pub fresh-done : c ≡ 0 → (y z : List ℕ) (r : Answer) → y ≡ freshSheet n ++ drop n s → z ≡ clearedFrom n y → r ≡ plain 0 0 0 n → Fresh n s z r
@@ -62,8 +62,8 @@ module _ (n : ℕ) (s : List ℕ) (c : ℕ) (ec : c ≡ freshCode n (length s)) 
       let g : freshCode n (length s) ≡ 0 = sym ec ∙ e in
       let h : Holds y n (length s) (freshSheet n) = subst (λ (x : List ℕ). Holds x n (length s) (freshSheet n)) (sym ey) (over-holds (freshSheet n) s n (sym (fresh-length n)) (fresh-none n (length s) g .1)) in
       record {
-        answer = er ∙ sym (answer-done (freshCode n (length s)) _ _ g);
-        words = holds-filled y z n (length s) (freshSheet n) h ez ∙ sym (words-done (freshCode n (length s)) _ _ g);
+        answer = er ∙ sym (if-done (freshCode n (length s)) _ _ g);
+        words = holds-filled y z n (length s) (freshSheet n) h ez ∙ sym (if-done (freshCode n (length s)) _ _ g);
       }
 
 -- ---- take where only 9 is left
@@ -118,7 +118,7 @@ module _ (n t : ℕ) (book : List ℕ) (books : ℕ) (sheet : List ℕ) (sheets 
         let q : refuse (ltb (length sheet) (length new)) 9 0 ≡ 9 = ap (λ (b : Bool). refuse b 9 0) (lt-ltb (length sheet) (length new) (omega (arith, ec, count-is))) in
         let f : refuse (ltb (length sheet) (length new)) 9 0 ≡ 0 → ⊥ = λ p. omega (arith, p, q) in
         record {
-          answer = er ∙ ap (λ (m : ℕ). plain m 0 books sheets) (sym q) ∙ sym (answer-refused (refuse (ltb (length sheet) (length new)) 9 0) _ _ f);
+          answer = er ∙ ap (λ (m : ℕ). plain m 0 books sheets) (sym q) ∙ sym (if-refused (refuse (ltb (length sheet) (length new)) 9 0) _ _ f);
           kept = λ p. (refl, refl);
           booked-in = λ p. absurd (f p);
           taken-in = λ p. absurd (f p);
@@ -136,7 +136,7 @@ module _ (n t : ℕ) (book : List ℕ) (books : ℕ) (sheet : List ℕ) (sheets 
           let ll : l ≡ length (withWord t (take books book)) = sym (length-take-le l bz (g .fits)) ∙ ap length (g .is) in
           let lm : m ≡ length new = sym (length-take-le m sz (h .fits)) ∙ ap length (h .is) in
           record {
-            answer = er ∙ same-done ll lm struck-is added-is ∙ sym (answer-done (refuse (ltb (length sheet) (length new)) 9 0) _ _ q);
+            answer = er ∙ same-done ll lm struck-is added-is ∙ sym (if-done (refuse (ltb (length sheet) (length new)) 9 0) _ _ q);
             kept = λ f. absurd (f q);
             booked-in = λ p. subst (λ (x : ℕ). Holds bz x (length book) (withWord t (take books book))) ll g;
             taken-in = λ p. subst (λ (x : ℕ). Holds sz x (length sheet) new) lm h;
@@ -154,23 +154,23 @@ module _ (spoilt : Bool) (n : ℕ) (book : List ℕ) (books : ℕ) (sheet : List
   abbrev code : ℕ
   code = takeCode spoilt n book books sheet sheets i j
 
-  pub entry-lent : (l : ℕ) → l ≡ lentCode spoilt n book books sheet sheets i j → (l ≡ 0 → ⊥) → l ≡ entry
+  pub entry-lent : (l : ℕ) → l ≡ givenCode spoilt n book books sheet sheets i j → (l ≡ 0 → ⊥) → l ≡ entry
   unfolding entryCode
-  entry-lent l el f = el ∙ refuse-first (lentCode spoilt n book books sheet sheets i j) _ (λ e. f (el ∙ e))
+  entry-lent l el f = el ∙ refuse-first (givenCode spoilt n book books sheet sheets i j) _ (λ e. f (el ∙ e))
 
-  pub entry-booking : (l b : ℕ) → l ≡ lentCode spoilt n book books sheet sheets i j → l ≡ 0 → b ≡ bookingCode word (length book) (take books book) → b ≡ entry
+  pub entry-booking : (l b : ℕ) → l ≡ givenCode spoilt n book books sheet sheets i j → l ≡ 0 → b ≡ bookingCode word (length book) (take books book) → b ≡ entry
   unfolding entryCode
-  entry-booking l b el e eb = eb ∙ sym (refuse-after (lentCode spoilt n book books sheet sheets i j) _ (sym el ∙ e))
+  entry-booking l b el e eb = eb ∙ sym (refuse-after (givenCode spoilt n book books sheet sheets i j) _ (sym el ∙ e))
 
   pub entry-known : (c : ℕ) → c ≡ entry → c ≡ 0 → Lent n book books sheet sheets i j
   unfolding entryCode
-  entry-known c ec e = lent-none spoilt n book books sheet sheets i j (refuse-both (lentCode spoilt n book books sheet sheets i j) _ (sym ec ∙ e) .0)
+  entry-known c ec e = given-none spoilt n book books sheet sheets i j (refuse-both (givenCode spoilt n book books sheet sheets i j) _ (sym ec ∙ e) .0)
 
   pub entry-ready : (c : ℕ) → c ≡ entry → c ≡ 0 → (w : ℕ) → w ≡ word → Ready n w book books sheet sheets
   unfolding entryCode
   entry-ready c ec e w ew =
       let l = entry-known c ec e in
-      let z : bookingCode word (length book) (take books book) ≡ 0 = refuse-both (lentCode spoilt n book books sheet sheets i j) _ (sym ec ∙ e) .1 in
+      let z : bookingCode word (length book) (take books book) ≡ 0 = refuse-both (givenCode spoilt n book books sheet sheets i j) _ (sym ec ∙ e) .1 in
       let b = booking-none w (length book) (take books book) (ap (λ (x : ℕ). bookingCode x (length book) (take books book)) ew ∙ z) in
       record {
         small = l .small;
@@ -185,9 +185,9 @@ module _ (spoilt : Bool) (n : ℕ) (book : List ℕ) (books : ℕ) (sheet : List
   refused-all : (r : Answer) → (code ≡ 0 → ⊥) → r ≡ plain code 0 books sheets → Taken spoilt n book books sheet sheets i j book sheet r
   unfolding takeAnswer takeBook takeWords
   refused-all r f er = record {
-    answer = er ∙ sym (answer-refused code _ _ f);
-    book-words = sym (words-refused code _ _ f);
-    sheet-words = sym (words-refused code _ _ f);
+    answer = er ∙ sym (if-refused code _ _ f);
+    book-words = sym (if-refused code _ _ f);
+    sheet-words = sym (if-refused code _ _ f);
   }
 
   pub take-refused : (c : ℕ) → c ≡ entry → (c ≡ 0 → ⊥) → (r : Answer) → r ≡ plain c 0 books sheets → Taken spoilt n book books sheet sheets i j book sheet r
@@ -211,13 +211,13 @@ module _ (spoilt : Bool) (n : ℕ) (book : List ℕ) (books : ℕ) (sheet : List
     unfolding takeAnswer innerAnswer
     answer-is =
         h .answer ∙ ap (λ (x : ℕ). innerAnswer n x book books sheet sheets) ew
-        ∙ ap (λ (x : ℕ). answerIf x (done (length (withWord word (take books book))) (length (takeSheet n (take sheets sheet) word)) (struckCount (take sheets sheet) (takeSheet n (take sheets sheet) word)) (addedCount (take sheets sheet) (takeSheet n (take sheets sheet) word))) (plain x 0 books sheets)) (sym code-is)
+        ∙ ap (λ (x : ℕ). ifDone x (done (length (withWord word (take books book))) (length (takeSheet n (take sheets sheet) word)) (struckCount (take sheets sheet) (takeSheet n (take sheets sheet) word)) (addedCount (take sheets sheet) (takeSheet n (take sheets sheet) word))) (plain x 0 books sheets)) (sym code-is)
 
     answer-code : a .code ≡ inner
     unfolding innerAnswer
     answer-code = ap (λ (x : Answer). x .code) (h .answer) ∙ ap (λ (x : ℕ). (innerAnswer n x book books sheet sheets) .code) ew ∙ picked-code inner
       where
-        picked-code : (x : ℕ) → (answerIf x (done (length (withWord word (take books book))) (length (takeSheet n (take sheets sheet) word)) (struckCount (take sheets sheet) (takeSheet n (take sheets sheet) word)) (addedCount (take sheets sheet) (takeSheet n (take sheets sheet) word))) (plain x 0 books sheets)) .code ≡ x
+        picked-code : (x : ℕ) → (ifDone x (done (length (withWord word (take books book))) (length (takeSheet n (take sheets sheet) word)) (struckCount (take sheets sheet) (takeSheet n (take sheets sheet) word)) (addedCount (take sheets sheet) (takeSheet n (take sheets sheet) word))) (plain x 0 books sheets)) .code ≡ x
         picked-code zero = refl
         picked-code (suc x) = refl
 
@@ -228,8 +228,8 @@ module _ (spoilt : Bool) (n : ℕ) (book : List ℕ) (books : ℕ) (sheet : List
         let d : code ≡ 0 → ⊥ = λ p. f (answer-code ∙ sym code-is ∙ p) in
         record {
           answer = answer-is;
-          book-words = h .kept g .0 ∙ sym (words-refused code _ _ d);
-          sheet-words = h .kept g .1 ∙ sym (words-refused code _ _ d);
+          book-words = h .kept g .0 ∙ sym (if-refused code _ _ d);
+          sheet-words = h .kept g .1 ∙ sym (if-refused code _ _ d);
         }
 
     module _ (z : a .code ≡ 0) where
@@ -238,7 +238,7 @@ module _ (spoilt : Bool) (n : ℕ) (book : List ℕ) (books : ℕ) (sheet : List
 
       done-parts : a ≡ done (length (withWord word (take books book))) (length (takeSheet n (take sheets sheet) word)) (struckCount (take sheets sheet) (takeSheet n (take sheets sheet) word)) (addedCount (take sheets sheet) (takeSheet n (take sheets sheet) word))
       unfolding takeAnswer
-      done-parts = answer-is ∙ answer-done code _ _ (code-is ∙ sym answer-code ∙ z)
+      done-parts = answer-is ∙ if-done code _ _ (code-is ∙ sym answer-code ∙ z)
 
       next-is : a .«book_count» ≡ length (withWord word (take books book))
       next-is = ap (λ (x : Answer). x .«book_count») done-parts
@@ -266,8 +266,8 @@ module _ (spoilt : Bool) (n : ℕ) (book : List ℕ) (books : ℕ) (sheet : List
       unfolding takeBook takeWords
       take-done by sy eb es = record {
         answer = answer-is;
-        book-words = holds-filled bz by (a .«book_count») (length book) _ book-holds eb ∙ sym (words-done code _ _ (code-is ∙ sym answer-code ∙ z));
-        sheet-words = holds-filled sz sy (a .«sheet_count») (length sheet) _ sheet-holds es ∙ sym (words-done code _ _ (code-is ∙ sym answer-code ∙ z));
+        book-words = holds-filled bz by (a .«book_count») (length book) _ book-holds eb ∙ sym (if-done code _ _ (code-is ∙ sym answer-code ∙ z));
+        sheet-words = holds-filled sz sy (a .«sheet_count») (length sheet) _ sheet-holds es ∙ sym (if-done code _ _ (code-is ∙ sym answer-code ∙ z));
       }
 
 -- states and successors of a panel fit ten relays

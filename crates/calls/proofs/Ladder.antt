@@ -10,7 +10,7 @@ use Rattle.panel.specs.Transitions.{transitionWord}
 use Rattle.book.specs.Books.{goodBook, told, against, withWord}
 use Rattle.prime.specs.Sheets.{goodSheet, takeSheet}
 use Rattle.answers.specs.Answers.{refuse}
-use Rattle.calls.specs.Take.{lentCode, bookingCode, entryCode, innerCode, takeCode}
+use Rattle.calls.specs.Take.{givenCode, bookingCode, entryCode, innerCode, takeCode}
 
 -- nine tests, one after the other
 ladder : (a b c d e f g h k : Bool) → ℕ
@@ -46,7 +46,7 @@ pub take-asks : (spoilt : Bool) (n : ℕ) (book : List ℕ) (books : ℕ) (sheet
     (refuse (ltb (length book) (length (withWord (transitionWord i j) (take books book)))) 8
     (refuse (ltb (length sheet) (length (takeSheet n (take sheets sheet) (transitionWord i j)))) 9
     0))))))))
-unfolding takeCode entryCode lentCode bookingCode innerCode ladder
+unfolding takeCode entryCode givenCode bookingCode innerCode ladder
 take-asks spoilt n book books sheet sheets i j =
     parts (not (panelSize n)) (spoilt || (ltb (length book) books || ltb (length sheet) sheets)) (not (goodBook n (take books book)))
     (not (goodSheet n (take sheets sheet))) (not (ltb i (2 ^ n) && ltb j (2 ^ n))) (told (transitionWord i j) (take books book))

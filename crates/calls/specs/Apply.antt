@@ -7,7 +7,7 @@ use lib.Dec.{ltb}
 use lib.ListN.{length, take}
 use Rattle.panel.specs.Masks.{panelSize}
 use Rattle.prime.specs.Sheets.{goodSheet, applySheet}
-use Rattle.answers.specs.Answers.{refuse, plain}
+use Rattle.answers.specs.Answers.{refuse, plain, ifDone}
 use Rattle.calls.specs.declared.Applied.{Applied}
 
 unfoldable pub applyCode : ℕ → List ℕ → ℕ → ℕ → ℕ
@@ -17,11 +17,7 @@ applyCode n sheet sheets x =
     (refuse (not (goodSheet n (take sheets sheet))) 5
     (refuse (not (ltb x (2 ^ n))) 6 0)))
 
-abbrev pub stateIf : ℕ → ℕ → ℕ
-stateIf zero x = x
-stateIf (suc c) x = 0
-
 -- counts 0 always; the state that the sheet gives, 0 where refused
 unfoldable pub applyAnswer : ℕ → List ℕ → ℕ → ℕ → Applied
 applyAnswer n sheet sheets x =
-    record { answer = plain (applyCode n sheet sheets x) 0 0 0; state = stateIf (applyCode n sheet sheets x) (applySheet n (take sheets sheet) x) }
+    record { answer = plain (applyCode n sheet sheets x) 0 0 0; state = ifDone (applyCode n sheet sheets x) (applySheet n (take sheets sheet) x) 0 }

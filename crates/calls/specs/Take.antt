@@ -10,12 +10,12 @@ use Rattle.panel.specs.Masks.{panelSize}
 use Rattle.panel.specs.Transitions.{transitionWord}
 use Rattle.prime.specs.Sheets.{goodSheet, takeSheet, struckCount, addedCount}
 use Rattle.book.specs.Books.{statesUp, goodBook, told, against, withWord}
-use Rattle.answers.specs.Answers.{refuse, plain, done, answerIf, wordsIf}
+use Rattle.answers.specs.Answers.{refuse, plain, done, ifDone}
 use Rattle.answers.specs.declared.Answer.{Answer}
 
 -- the refusals 2 to 6; `spoilt` tells that a session's totals do not fit
-unfoldable pub lentCode : Bool → ℕ → List ℕ → ℕ → List ℕ → ℕ → ℕ → ℕ → ℕ
-lentCode spoilt n book books sheet sheets i j =
+unfoldable pub givenCode : Bool → ℕ → List ℕ → ℕ → List ℕ → ℕ → ℕ → ℕ → ℕ
+givenCode spoilt n book books sheet sheets i j =
     refuse (not (panelSize n)) 2
     (refuse (spoilt || (ltb (length book) books || ltb (length sheet) sheets)) 3
     (refuse (not (goodBook n (take books book))) 4
@@ -29,7 +29,7 @@ bookingCode t room book = refuse (told t book) 1 (refuse (against t book) 7 (ref
 -- the refusals before the new sheet is known
 unfoldable pub entryCode : Bool → ℕ → List ℕ → ℕ → List ℕ → ℕ → ℕ → ℕ → ℕ
 entryCode spoilt n book books sheet sheets i j =
-    refuse (not (eqb (lentCode spoilt n book books sheet sheets i j) 0)) (lentCode spoilt n book books sheet sheets i j)
+    refuse (not (eqb (givenCode spoilt n book books sheet sheets i j) 0)) (givenCode spoilt n book books sheet sheets i j)
     (bookingCode (transitionWord i j) (length book) (take books book))
 
 -- 9 exactly if the new sheet has more rules than its slice
@@ -45,7 +45,7 @@ takeCode spoilt n book books sheet sheets i j =
 -- the new counts, struck and added; a refusal or code 1 has the counts given
 unfoldable pub takeAnswer : Bool → ℕ → List ℕ → ℕ → List ℕ → ℕ → ℕ → ℕ → Answer
 takeAnswer spoilt n book books sheet sheets i j =
-    answerIf (takeCode spoilt n book books sheet sheets i j)
+    ifDone (takeCode spoilt n book books sheet sheets i j)
     (done (length (withWord (transitionWord i j) (take books book))) (length (takeSheet n (take sheets sheet) (transitionWord i j)))
     (struckCount (take sheets sheet) (takeSheet n (take sheets sheet) (transitionWord i j)))
     (addedCount (take sheets sheet) (takeSheet n (take sheets sheet) (transitionWord i j))))
@@ -54,18 +54,18 @@ takeAnswer spoilt n book books sheet sheets i j =
 -- the book with the transition, and 0 beyond; a refusal or code 1 changes no word
 unfoldable pub takeBook : Bool → ℕ → List ℕ → ℕ → List ℕ → ℕ → ℕ → ℕ → List ℕ
 takeBook spoilt n book books sheet sheets i j =
-    wordsIf (takeCode spoilt n book books sheet sheets i j) (filled (length book) (withWord (transitionWord i j) (take books book))) book
+    ifDone (takeCode spoilt n book books sheet sheets i j) (filled (length book) (withWord (transitionWord i j) (take books book))) book
 
 -- the new sheet, and 0 beyond; a refusal or code 1 changes no word
 unfoldable pub takeWords : Bool → ℕ → List ℕ → ℕ → List ℕ → ℕ → ℕ → ℕ → List ℕ
 takeWords spoilt n book books sheet sheets i j =
-    wordsIf (takeCode spoilt n book books sheet sheets i j) (filled (length sheet) (takeSheet n (take sheets sheet) (transitionWord i j))) sheet
+    ifDone (takeCode spoilt n book books sheet sheets i j) (filled (length sheet) (takeSheet n (take sheets sheet) (transitionWord i j))) sheet
 
 -- ---- take where only 9 is left
 
 unfoldable pub innerAnswer : ℕ → ℕ → List ℕ → ℕ → List ℕ → ℕ → Answer
 innerAnswer n t book books sheet sheets =
-    answerIf (innerCode n t sheet sheets)
+    ifDone (innerCode n t sheet sheets)
     (done (length (withWord t (take books book))) (length (takeSheet n (take sheets sheet) t))
     (struckCount (take sheets sheet) (takeSheet n (take sheets sheet) t))
     (addedCount (take sheets sheet) (takeSheet n (take sheets sheet) t)))

@@ -10,7 +10,7 @@ ghost use Prim.Native.Nat.{_≤_, _<_};
 ghost use Rattle.book.specs.Books.{statesUp};
 ghost use Rattle.panel.specs.Transitions.{transitionWord};
 ghost use Rattle.calls.specs.Fresh.{freshCode, Fresh};
-ghost use Rattle.calls.specs.Take.{lentCode, bookingCode, entryCode, Ready, Inner, Taken};
+ghost use Rattle.calls.specs.Take.{givenCode, bookingCode, entryCode, Ready, Inner, Taken};
 ghost use Rattle.calls.specs.Apply.{applyCode, applyAnswer};
 
 // What apply gives: the common numbers, and the state.
@@ -46,7 +46,7 @@ pub fn fresh(n: u32, sheet: &mut [u32]) -> Answer
 }
 
 // The refusals 2 to 6 of a take.
-fn lent_code(
+fn given_code(
     spoilt: bool,
     n: u32,
     book: &[u32],
@@ -56,7 +56,7 @@ fn lent_code(
     i: u32,
     j: u32,
 ) -> u32
-    ensures { λ r. ⌜ r ≡ lentCode spoilt n (now (book .entry)) books (now (sheet .entry)) sheets i j ⌝ }
+    ensures { λ r. ⌜ r ≡ givenCode spoilt n (now (book .entry)) books (now (sheet .entry)) sheets i j ⌝ }
 {
     if !panel::is_panel_size(n) {
         return 2;
@@ -121,7 +121,7 @@ fn entry_code(
 ) -> u32
     ensures { λ r. ⌜ r ≡ entryCode spoilt n (now (book .entry)) books (now (sheet .entry)) sheets i j ⌝ }
 {
-    let code = lent_code(spoilt, n, book, books, sheet, sheets, i, j);
+    let code = given_code(spoilt, n, book, books, sheet, sheets, i, j);
     if code != 0 {
         return code;
     }

@@ -8,14 +8,14 @@ use lib.Dec.{leb, ltb}
 use lib.ListN.{getD}
 use borrow.Author.Tests.{le-ltb, leb-false}
 use Rattle.panel.specs.Masks.{panelSize}
-use Rattle.answers.specs.Answers.{plain}
+use Rattle.answers.specs.Answers.{plain, ifDone}
 use Rattle.answers.specs.declared.Answer.{Answer}
-use Rattle.answers.proofs.Laws.{answer-refused, words-refused, refuse-now}
+use Rattle.answers.proofs.Laws.{refuse-now, if-refused}
 use Rattle.calls.specs.Take.{takeCode, takeAnswer, takeBook, takeWords}
 use Rattle.calls.proofs.Ladder.{take-asks}
 use Rattle.sessions.specs.declared.Session.{Session}
 use Rattle.sessions.specs.declared.Outcome.{Outcome}
-use Rattle.sessions.specs.Sessions.{sessionIf, counted, totalsFit, sessionAfter, sessionAnswer, sessionTaken, sessionBook, sessionWords}
+use Rattle.sessions.specs.Sessions.{counted, totalsFit, sessionAfter, sessionAnswer, sessionTaken, sessionBook, sessionWords}
 use Rattle.sessions.proofs.Outcomes.{after-refused}
 use Rattle.lent.specs.Lent.{TakesLent}
 use Rattle.lent.proofs.Laws.{lent-determined}
@@ -37,7 +37,7 @@ n-stays : (s : Session) (book sheet : List ℕ) (i j : ℕ) → sessionTaken s b
 unfolding sessionTaken sessionAfter
 n-stays s book sheet i j = go (sessionAnswer s book sheet i j .code)
   where
-    go : (c : ℕ) → sessionIf c (counted s (sessionAnswer s book sheet i j)) s .n ≡ s .n
+    go : (c : ℕ) → ifDone c (counted s (sessionAnswer s book sheet i j)) s .n ≡ s .n
     go zero = refl
     go (suc c) = refl
 
@@ -64,7 +64,7 @@ module _ (s : Session) (book sheet : List ℕ) (i j : ℕ) where
 
     answer-two : sessionAnswer (sized k s) book sheet i j ≡ plain 2 0 (s .«book_count») (s .«sheet_count»)
     unfolding code sessionAnswer takeAnswer
-    answer-two = answer-refused code _ _ refused ∙ ap (λ (c : ℕ). plain c 0 (s .«book_count») (s .«sheet_count»)) code-two
+    answer-two = if-refused code _ _ refused ∙ ap (λ (c : ℕ). plain c 0 (s .«book_count») (s .«sheet_count»)) code-two
 
     -- it is refused, and nothing changes
     size-refused : TakesLent (sized k s) book sheet i j (sized k s) book sheet (plain 2 0 (s .«book_count») (s .«sheet_count»))
@@ -72,8 +72,8 @@ module _ (s : Session) (book sheet : List ℕ) (i j : ℕ) where
     size-refused = record {
       answer = sym answer-two;
       session = after-refused (sized k s) (sessionAnswer (sized k s) book sheet i j) (λ e. absurd (two (sym (ap (λ (a : Answer). a .code) answer-two) ∙ e)));
-      book-words = sym (words-refused code _ _ refused);
-      sheet-words = sym (words-refused code _ _ refused);
+      book-words = sym (if-refused code _ _ refused);
+      sheet-words = sym (if-refused code _ _ refused);
     }
       where
         two : _≡_ {A = ℕ} 2 0 → ⊥

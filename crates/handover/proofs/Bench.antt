@@ -15,15 +15,15 @@ use Rattle.book.specs.Books.{goodBook, differ, told, against, withWord, clash, 
 use Rattle.prime.specs.Sheets.{least, sheetWhere, permits, goodSheet, freshSheet, takeSheet, joinSheet, struckCount, addedCount, pullsIn, applySheet}
 use Rattle.answers.specs.declared.Answer.{Answer}
 use Rattle.calls.specs.declared.Applied.{Applied}
-use Rattle.calls.specs.Take.{lentCode, bookingCode, entryCode, innerCode, takeCode, takeAnswer, takeBook, takeWords}
+use Rattle.calls.specs.Take.{givenCode, bookingCode, entryCode, innerCode, takeCode, takeAnswer, takeBook, takeWords}
 use Rattle.calls.specs.Apply.{applyCode, applyAnswer}
 use Rattle.learning.specs.Learn.{taken, learnStep, learnWords, learnStart, reproduced, learnEnd, learnRun, runAnswer, runBook, runSheet}
 use Rattle.joining.specs.Joining.{exceeds, piecesCode, joinCode, joinAnswer, bookAfter, sheetAfter}
-use Rattle.handover.specs.Bench.{Row, learns, takes, joins, applies, Stands, sameWords, sameAnswer, rowHolds, tableHolds, bench}
+use Rattle.handover.specs.Bench.{Row, learns, takes, joins, applies, RowStands, sameWords, sameAnswer, rowHolds, tableHolds, bench}
 
 -- every row of the bench passes its test
 pub bench-holds : tableHolds bench ≡ true
-unfolding has missing filled panelSize relays on allOn allOff bitsWhere ruleWord head mustOn mustOff validRule covers contains narrows rules transitionWord state next observed validTransition rests spared goodBook differ told against withWord clash union least sheetWhere permits goodSheet freshSheet takeSheet joinSheet struckCount addedCount pullsIn applySheet lentCode bookingCode entryCode innerCode takeCode takeAnswer takeBook takeWords applyCode applyAnswer taken learnStep learnWords learnStart reproduced learnEnd learnRun runAnswer runBook runSheet exceeds piecesCode joinCode joinAnswer bookAfter sheetAfter
+unfolding has missing filled panelSize relays on allOn allOff bitsWhere ruleWord head mustOn mustOff validRule covers contains narrows rules transitionWord state next observed validTransition rests spared goodBook differ told against withWord clash union least sheetWhere permits goodSheet freshSheet takeSheet joinSheet struckCount addedCount pullsIn applySheet givenCode bookingCode entryCode innerCode takeCode takeAnswer takeBook takeWords applyCode applyAnswer taken learnStep learnWords learnStart reproduced learnEnd learnRun runAnswer runBook runSheet exceeds piecesCode joinCode joinAnswer bookAfter sheetAfter
 bench-holds = refl
 
 -- ---- what the tests mean
@@ -60,7 +60,7 @@ results-same r r′ a book book′ b sheet sheet′ s er eb es e =
     )
 
 -- a row that passes its test stands
-pub row-stands : (k : Row) → rowHolds k ≡ true → Stands k
+pub row-stands : (k : Row) → rowHolds k ≡ true → RowStands k
 row-stands (learns n words bookRoom sheetRoom a b s) e =
     λ r book sheet h. results-same r _ a book _ b sheet _ s (h .answer) (h .book-words) (h .sheet-words) e
 row-stands (takes n oldBook books oldSheet sheets i j a b s) e =
@@ -72,10 +72,10 @@ row-stands (applies n sheet sheets x a y) e = λ r h. (
   ap (λ (z : Applied). z .state) h ∙ eqb-true (applyAnswer n sheet sheets x .state) y (and-r (sameAnswer (applyAnswer n sheet sheets x .answer) a) (eqb (applyAnswer n sheet sheets x .state) y) e),
 )
 
-rows-stand : (ks : List Row) → tableHolds ks ≡ true → (k : Row) → Mem k ks → Stands k
-rows-stand (x ∷ xs) e k (here p) = subst Stands (sym p) (row-stands x (and-l (rowHolds x) (tableHolds xs) e))
+rows-stand : (ks : List Row) → tableHolds ks ≡ true → (k : Row) → Mem k ks → RowStands k
+rows-stand (x ∷ xs) e k (here p) = subst RowStands (sym p) (row-stands x (and-l (rowHolds x) (tableHolds xs) e))
 rows-stand (x ∷ xs) e k (there m) = rows-stand xs (and-r (rowHolds x) (tableHolds xs) e) k m
 
 -- K1 to K12: whatever satisfies the contract of a row's call has the row's answer and words
-pub bench-stands : (k : Row) → Mem k bench → Stands k
+pub bench-stands : (k : Row) → Mem k bench → RowStands k
 bench-stands k m = rows-stand bench bench-holds k m

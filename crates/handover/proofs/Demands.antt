@@ -14,13 +14,13 @@ use Rattle.prime.proofs.Primes.{sheetOf-prime, prime-sheetOf, join-members}
 use Rattle.prime.proofs.Apply.{Booked}
 use Rattle.book.specs.Books.{bookOf, union}
 use Rattle.book.proofs.BookOf.{book-from, book-to, book-rises, book-members, book-union}
-use Rattle.answers.specs.Answers.{plain, done, answerIf}
+use Rattle.answers.specs.Answers.{plain, done, ifDone}
 use Rattle.answers.specs.declared.Answer.{Answer}
-use Rattle.answers.proofs.Laws.{answer-done, words-done}
 use Rattle.learning.specs.Learn.{Run, going, refused, learnRun, runAnswer, runBook, runSheet, Learned}
 use Rattle.joining.specs.Joining.{Piece, bookIn, sheetIn, joinedBook, joinedSheet, joinCode, joinAnswer, bookAfter, sheetAfter}
-use Rattle.handover.specs.Demands.{Outcome, lent, bookUsed, sheetUsed, ZeroFrom, InUse, Complete, Learns, Same, Divided, Joins}
+use Rattle.handover.specs.Demands.{Left, pieceOf, bookUsed, sheetUsed, ZeroFrom, InUse, Complete, Learns, Same, Divided, Joins}
 use Rattle.handover.proofs.Runs.{Read, After, read-booked, run-read}
+use Rattle.answers.proofs.Laws.{if-done}
 
 -- ---- a table at the front of a slice, and 0 in every word beyond
 
@@ -94,25 +94,25 @@ held n ts bookRoom sheetRoom book sheet r l z =
     go (going b s x y) f e eb es = record { b = b; s = s; x = x; y = y; read = f; answers = e; books = eb; sheets = es }
 
 -- demand 2: what a learn of ts leaves is the complete result for ts
-pub learn-complete : (n : ℕ) (ts : List ℕ) (o : Outcome) → Learns n ts o → Complete n ts (lent o)
+pub learn-complete : (n : ℕ) (ts : List ℕ) (o : Left) → Learns n ts o → Complete n ts (pieceOf o)
 learn-complete n ts o l =
     let h = held n ts (l .book-room) (l .sheet-room) (o .book) (o .sheet) (o .answer) (l .contract) (l .learned) in
-    complete n (h .read .small) ts (h .b) (h .s) (lent o) (l .book-room) (l .sheet-room)
+    complete n (h .read .small) ts (h .b) (h .s) (pieceOf o) (l .book-room) (l .sheet-room)
     (h .books) (ap (λ (a : Answer). a .«book_count») (h .answers)) (h .sheets) (ap (λ (a : Answer). a .«sheet_count») (h .answers))
     (h .read .is-book) (h .read .is-sheet)
 
 -- the panel of a learn that is not refused has at most 10 relays
-pub learns-small : (n : ℕ) (ts : List ℕ) (o : Outcome) → Learns n ts o → n ≤ 10
+pub learns-small : (n : ℕ) (ts : List ℕ) (o : Left) → Learns n ts o → n ≤ 10
 learns-small n ts o l = held n ts (l .book-room) (l .sheet-room) (o .book) (o .sheet) (o .answer) (l .contract) (l .learned) .read .small
 
 -- its words are valid, and no state has two successors
-pub learns-booked : (n : ℕ) (ts : List ℕ) (o : Outcome) → Learns n ts o → Booked n ts
+pub learns-booked : (n : ℕ) (ts : List ℕ) (o : Left) → Learns n ts o → Booked n ts
 learns-booked n ts o l =
     let h = held n ts (l .book-room) (l .sheet-room) (o .book) (o .sheet) (o .answer) (l .contract) (l .learned) in
     read-booked n ts (h .b) (h .s) (h .x) (h .y) (h .read)
 
 -- the sheet count is n less struck, and added
-pub learn-counts : (n : ℕ) (ts : List ℕ) (o : Outcome) → Learns n ts o → o .answer .«sheet_count» + o .answer .struck ≡ n + o .answer .added
+pub learn-counts : (n : ℕ) (ts : List ℕ) (o : Left) → Learns n ts o → o .answer .«sheet_count» + o .answer .struck ≡ n + o .answer .added
 learn-counts n ts o l =
     let h = held n ts (l .book-room) (l .sheet-room) (o .book) (o .sheet) (o .answer) (l .contract) (l .learned) in
     omega (
@@ -135,7 +135,7 @@ never-ten n ts bookRoom sheetRoom book sheet r l = go (learnRun n bookRoom sheet
 -- ---- one complete result
 
 -- lists with the same members have one book and one sheet in use, number for number
-pub in-use-same : (n : ℕ) → n ≤ 10 → (ts us : List ℕ) (o q : Outcome) → InUse n ts (lent o) → InUse n us (lent q)
+pub in-use-same : (n : ℕ) → n ≤ 10 → (ts us : List ℕ) (o q : Left) → InUse n ts (pieceOf o) → InUse n us (pieceOf q)
     → ((t : ℕ) → Mem t ts → Mem t us) → ((t : ℕ) → Mem t us → Mem t ts) → Same o q
 in-use-same n small ts us o q c d f g = record {
   books = same-book;
@@ -151,7 +151,7 @@ in-use-same n small ts us o q c d f g = record {
     same-sheet = c .is-sheet ∙ sheetOf-members n small ts us f g ∙ sym (d .is-sheet)
 
 -- rows in any order, repeats allowed: learns of lists with the same members agree
-pub order-free : (n : ℕ) (ts us : List ℕ) (o q : Outcome) → Learns n ts o → Learns n us q
+pub order-free : (n : ℕ) (ts us : List ℕ) (o q : Left) → Learns n ts o → Learns n us q
     → ((t : ℕ) → Mem t ts → Mem t us) → ((t : ℕ) → Mem t us → Mem t ts) → Same o q
 order-free n ts us o q l k f g =
     in-use-same n (learns-small n ts o l) ts us o q (learn-complete n ts o l .in-use) (learn-complete n us q k .in-use) f g
@@ -159,18 +159,18 @@ order-free n ts us o q l k f g =
 -- ---- demand 3
 
 -- the answer of a join has the code of its ladder
-join-code : (c books sheets : ℕ) → (answerIf c (done books sheets 0 0) (plain c 0 0 0)) .code ≡ c
+join-code : (c books sheets : ℕ) → (ifDone c (done books sheets 0 0) (plain c 0 0 0)) .code ≡ c
 join-code zero books sheets = refl
 join-code (suc c) books sheets = refl
 
 -- what a join of two pieces with the books and sheets of ps and qs leaves is the complete result for any whole that they divide
-pub join-complete : (n : ℕ) → n ≤ 10 → (ts ps qs : List ℕ) (p q : Piece) (o : Outcome) → Divided ts ps qs → InUse n ps p → InUse n qs q → Joins n p q o → Complete n ts (lent o)
+pub join-complete : (n : ℕ) → n ≤ 10 → (ts ps qs : List ℕ) (p q : Piece) (o : Left) → Divided ts ps qs → InUse n ps p → InUse n qs q → Joins n p q o → Complete n ts (pieceOf o)
 unfolding joinAnswer bookAfter sheetAfter
 join-complete n small ts ps qs p q o v c d j =
-    complete n small ts (joinedBook p q) (joinedSheet n p q) (lent o) (length (j .book-before)) (length (j .sheet-before))
-    (j .contract .book-left ∙ words-done code (filled (length (j .book-before)) (joinedBook p q)) (j .book-before) zero-code)
+    complete n small ts (joinedBook p q) (joinedSheet n p q) (pieceOf o) (length (j .book-before)) (length (j .sheet-before))
+    (j .contract .book-left ∙ if-done code (filled (length (j .book-before)) (joinedBook p q)) (j .book-before) zero-code)
     (ap (λ (a : Answer). a .«book_count») answers)
-    (j .contract .sheet-left ∙ words-done code (filled (length (j .sheet-before)) (joinedSheet n p q)) (j .sheet-before) zero-code)
+    (j .contract .sheet-left ∙ if-done code (filled (length (j .sheet-before)) (joinedSheet n p q)) (j .sheet-before) zero-code)
     (ap (λ (a : Answer). a .«sheet_count») answers)
     (ap₂ union (c .is-book) (d .is-book) ∙ book-union ps qs ∙ book-members (ps ++ qs) ts (λ t m. into t (List·Memᴰ·append-cases ps m)) (λ t m. out t (v .covered t m)))
     (ap₂ (joinSheet n) (c .is-sheet) (d .is-sheet) ∙ join-members n small ps qs ts (v .covered) (v .left-in) (v .right-in))
@@ -182,7 +182,7 @@ join-complete n small ts ps qs p q o v c d j =
     zero-code = sym (join-code code (length (joinedBook p q)) (length (joinedSheet n p q))) ∙ sym (ap (λ (a : Answer). a .code) (j .contract .answer)) ∙ j .joined
 
     answers : o .answer ≡ done (length (joinedBook p q)) (length (joinedSheet n p q)) 0 0
-    answers = j .contract .answer ∙ answer-done code (done (length (joinedBook p q)) (length (joinedSheet n p q)) 0 0) (plain code 0 0 0) zero-code
+    answers = j .contract .answer ∙ if-done code (done (length (joinedBook p q)) (length (joinedSheet n p q)) 0 0) (plain code 0 0 0) zero-code
 
     into : (t : ℕ) → Mem t ps ⊎ Mem t qs → Mem t ts
     into t (inl m) = v .left-in t m
@@ -194,10 +194,10 @@ join-complete n small ts ps qs p q o v c d j =
 
 -- demand 3: the pieces learned apart and joined, and the whole learned in any order, agree number for number, and both are what demand 2 defines.
 -- That no state has two successors needs no premise: the calls would have been refused.
-pub pieces-whole : (n : ℕ) (ts ps qs : List ℕ) (whole a b o : Outcome) → Divided ts ps qs
-    → Learns n ts whole → Learns n ps a → Learns n qs b → Joins n (lent a) (lent b) o → Same o whole × Complete n ts (lent o) × Complete n ts (lent whole)
+pub pieces-whole : (n : ℕ) (ts ps qs : List ℕ) (whole a b o : Left) → Divided ts ps qs
+    → Learns n ts whole → Learns n ps a → Learns n qs b → Joins n (pieceOf a) (pieceOf b) o → Same o whole × Complete n ts (pieceOf o) × Complete n ts (pieceOf whole)
 pieces-whole n ts ps qs whole a b o v w l k j =
     let small = learns-small n ts whole w in
     let all = learn-complete n ts whole w in
-    let joined = join-complete n small ts ps qs (lent a) (lent b) o v (learn-complete n ps a l .in-use) (learn-complete n qs b k .in-use) j in
+    let joined = join-complete n small ts ps qs (pieceOf a) (pieceOf b) o v (learn-complete n ps a l .in-use) (learn-complete n qs b k .in-use) j in
     (in-use-same n small ts ts o whole (joined .in-use) (all .in-use) (λ t m. m) (λ t m. m), joined, all)

@@ -13,7 +13,7 @@ use Rattle.prime.specs.Sheets.{pullsIn, applySheet}
 use Rattle.prime.proofs.Laws.{spared-e, spared-i, consistent-e, consistent-i}
 use Rattle.prime.proofs.Apply.{consistent-covers, covers-consistent, pullsIn-e, pullsIn-i, apply-on, rests-e, rests-i, reproduces}
 use Rattle.prime.specs.Primes.{Consistent, Prime}
-use Rattle.handover.specs.Demands.{Outcome, lent, sheetUsed, InUse, Learns}
+use Rattle.handover.specs.Demands.{Left, pieceOf, sheetUsed, InUse, Learns}
 use Rattle.handover.specs.Document000.{pos, neg, Clause, Met, Follows, Proper, Subsumes, SameRule, ConsistentWith, PrimeRule, CompletePrime, ruleOf, programOf}
 use Rattle.handover.proofs.Demands.{learn-complete, learns-small, learns-booked}
 use Rattle.handover.proofs.Clauses.{covers-met, met-covers, contains-within, within-contains, subsumes-narrows, rule-proper, wordOf, word-rule, word-same}
@@ -114,7 +114,7 @@ pulls-follows s i p e =
     (ruleOf (k .0), program-i (k .0) (k .1), k .2, covers-met (k .0) i (k .3))
 
 -- what a learn leaves is the complete prime program of its words
-pub learn-program : (n : ℕ) (ts : List ℕ) (o : Outcome) → Learns n ts o → CompletePrime n ts (programOf (sheetUsed o))
+pub learn-program : (n : ℕ) (ts : List ℕ) (o : Left) → Learns n ts o → CompletePrime n ts (programOf (sheetUsed o))
 learn-program n ts o l = record {
   realizes = λ t m p k. (
     λ e. pulls-follows (sheetUsed o) (state t) p (sym (pulled t m p k) ∙ e),
@@ -136,7 +136,7 @@ learn-program n ts o l = record {
     small : n ≤ 10
     small = learns-small n ts o l
 
-    c : InUse n ts (lent o)
+    c : InUse n ts (pieceOf o)
     c = learn-complete n ts o l .in-use
 
     pulled : (t : ℕ) → Mem t ts → (p : ℕ) → p < n → on p (next t) ≡ pullsIn (sheetUsed o) (state t) p

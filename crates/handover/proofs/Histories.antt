@@ -11,16 +11,15 @@ use Rattle.prime.specs.Sheets.{freshSheet}
 use Rattle.prime.proofs.Laws.{fresh-sheetOf}
 use Rattle.book.proofs.BookOf.{book-none}
 use Rattle.sheet.proofs.Fresh.{fresh-length}
-use Rattle.answers.specs.Answers.{plain, answerIf}
+use Rattle.answers.specs.Answers.{plain, ifDone}
 use Rattle.answers.specs.declared.Answer.{Answer}
-use Rattle.answers.proofs.Laws.{words-done}
 use Rattle.calls.specs.Fresh.{freshCode, freshAnswer, freshWords}
 use Rattle.calls.specs.Take.{Taken}
 use Rattle.calls.proofs.Ends.{fresh-none}
 use Rattle.joining.specs.Joining.{Piece}
 use Rattle.sessions.specs.declared.Session.{Session}
 use Rattle.sessions.specs.declared.Outcome.{Outcome}
-use Rattle.sessions.specs.Sessions.{sessionIf, freshSession, noSession, startSession, Starts, totalsFit, counted, sessionAfter, sessionAnswer, sessionTaken, sessionBook, sessionWords, Used, started as used-started, took as used-took}
+use Rattle.sessions.specs.Sessions.{freshSession, noSession, startSession, Starts, totalsFit, counted, sessionAfter, sessionAnswer, sessionTaken, sessionBook, sessionWords, Used, started as used-started, took as used-took}
 use Rattle.sessions.proofs.Outcomes.{after-done, after-refused}
 use Rattle.sessions.proofs.Use.{used-balanced}
 use Rattle.lent.specs.Lent.{TakesLent}
@@ -29,6 +28,7 @@ use Rattle.handover.specs.Demands.{ZeroFrom, InUse, Complete}
 use Rattle.handover.specs.Histories.{tables, TakeThrough, by-value, lent, History, started, took, stayed}
 use Rattle.handover.proofs.Demands.{used-is, count-in, rest-zero, in-use-of}
 use Rattle.handover.proofs.Takes.{take-complete, take-kept, take-told}
+use Rattle.answers.proofs.Laws.{if-done}
 
 -- ---- one take through a session
 
@@ -51,7 +51,7 @@ module _ (s : Session) (book sheet : List ℕ) (i j : ℕ) (s′ : Session) (boo
   unfolding sessionAfter
   through-size = ap (λ (q : Session). q .n) session-is ∙ picked (a .code)
     where
-      picked : (c : ℕ) → sessionIf c (counted s a) s .n ≡ s .n
+      picked : (c : ℕ) → ifDone c (counted s a) s .n ≡ s .n
       picked zero = refl
       picked (suc c) = refl
 
@@ -87,17 +87,17 @@ module _ (n : ℕ) (book sheet sheet′ : List ℕ) (r : Outcome) (h : Starts n 
   unfolding freshAnswer
   start-zero = sym (picked (freshCode n (length sheet))) ∙ sym (ap (λ (a : Answer). a .code) (h .answer)) ∙ z
     where
-      picked : (c : ℕ) → answerIf c (plain 0 0 0 n) (plain c 0 0 0) .code ≡ c
+      picked : (c : ℕ) → ifDone c (plain 0 0 0 n) (plain c 0 0 0) .code ≡ c
       picked zero = refl
       picked (suc c) = refl
 
   start-session : r .session ≡ freshSession n
   unfolding startSession
-  start-session = h .session ∙ ap (λ (c : ℕ). sessionIf c (freshSession n) noSession) start-zero
+  start-session = h .session ∙ ap (λ (c : ℕ). ifDone c (freshSession n) noSession) start-zero
 
   start-words : sheet′ ≡ filled (length sheet) (freshSheet n)
   unfolding freshWords
-  start-words = h .words ∙ words-done (freshCode n (length sheet)) _ _ start-zero
+  start-words = h .words ∙ if-done (freshCode n (length sheet)) _ _ start-zero
 
   going-start : Going n [] (r .session) book sheet′
   going-start =

@@ -17,14 +17,14 @@ use Rattle.prime.specs.Sheets.{least, sheetWhere, permits, goodSheet, freshShee
 use Rattle.answers.specs.Answers.{plain, done}
 use Rattle.answers.specs.declared.Answer.{Answer}
 use Rattle.calls.specs.Fresh.{freshCode, freshAnswer, freshWords}
-use Rattle.calls.specs.Take.{lentCode, bookingCode, entryCode, innerCode, takeCode, takeAnswer, takeBook, takeWords}
+use Rattle.calls.specs.Take.{givenCode, bookingCode, entryCode, innerCode, takeCode, takeAnswer, takeBook, takeWords}
 use Rattle.learning.specs.Learn.{taken, learnStep, learnWords, learnStart, reproduced, learnEnd, learnRun, runAnswer, runBook, runSheet, Learned}
 use Rattle.joining.specs.Joining.{exceeds, piecesCode, joinCode, joinAnswer, bookAfter, sheetAfter, Joined}
 use Rattle.sessions.specs.declared.Session.{Session}
 use Rattle.sessions.specs.Sessions.{freshSession, startSession, totalsFit, sessionAfter, sessionAnswer, sessionTaken, sessionBook, sessionWords, Starts, Takes}
 use Rattle.sessions.proofs.Use.{used-fits}
 use Rattle.lent.specs.Lent.{TakesLent}
-use Rattle.handover.specs.Demands.{Outcome, lent as piece-of, Complete, Learns, Same, Divided, Joins}
+use Rattle.handover.specs.Demands.{Left, pieceOf, Complete, Learns, Same, Divided, Joins}
 use Rattle.handover.specs.Document000.{Literal, pos, neg, atomOf, Clause, True, CompletePrime, Inferred, Specializes, SameRule, literals, ruleOf, programOf}
 use Rattle.handover.specs.Histories.{tables, by-value, lent, History, started, took, stayed}
 use Rattle.handover.proofs.Demands.{pieces-whole}
@@ -34,20 +34,20 @@ use Rattle.handover.proofs.Histories.{session-taken, session-used}
 
 -- ---- the calls
 
-abbrev outcome : List ℕ → List ℕ → Answer → Outcome
+abbrev outcome : List ℕ → List ℕ → Answer → Left
 outcome book sheet a = record { book = book; sheet = sheet; answer = a }
 
 -- "0 to 0" learned alone (K2), "1 to 0" learned alone, both joined (K11), and the whole learned (K3)
-abbrev left : Outcome
+abbrev left : Left
 left = outcome (0 ∷ []) (1024 ∷ []) (done 1 1 1 1)
 
-abbrev right : Outcome
+abbrev right : Left
 right = outcome (1024 ∷ []) (1 ∷ []) (done 1 1 1 1)
 
-abbrev joined : Outcome
+abbrev joined : Left
 joined = outcome (0 ∷ 1024 ∷ 0 ∷ []) (0 ∷ []) (done 2 0 0 0)
 
-abbrev whole : Outcome
+abbrev whole : Left
 whole = outcome (0 ∷ 1024 ∷ []) (0 ∷ []) (done 2 0 2 1)
 
 -- a session after "0 to 0", and after "1 to 0" too
@@ -61,7 +61,7 @@ both-taken = record { n = 1; «book_count» = 2; «sheet_count» = 0; struck = 2
 record Contracts : Type 0 where
   k2 : Learned 1 (transitionWord 0 0 ∷ []) 1 1 (left .book) (left .sheet) (left .answer)
   one-to-zero : Learned 1 (transitionWord 1 0 ∷ []) 1 1 (right .book) (right .sheet) (right .answer)
-  k11 : Joined 1 (piece-of left) (piece-of right) (7 ∷ 7 ∷ 7 ∷ []) (7 ∷ []) (joined .answer) (joined .book) (joined .sheet)
+  k11 : Joined 1 (pieceOf left) (pieceOf right) (7 ∷ 7 ∷ 7 ∷ []) (7 ∷ []) (joined .answer) (joined .book) (joined .sheet)
   k3 : Learned 1 (transitionWord 0 0 ∷ transitionWord 1 0 ∷ []) 2 1 (whole .book) (whole .sheet) (whole .answer)
   start : Starts 1 (7 ∷ 7 ∷ []) (0 ∷ 0 ∷ []) (record { answer = plain 0 0 0 1; session = freshSession 1 })
   first : Takes (freshSession 1) (7 ∷ 7 ∷ []) (0 ∷ 0 ∷ []) 0 0 (0 ∷ 0 ∷ []) (1024 ∷ 0 ∷ []) (record { answer = done 1 1 1 1; session = one-taken })
@@ -70,7 +70,7 @@ record Contracts : Type 0 where
   refused : TakesLent both-taken (0 ∷ 1024 ∷ []) (0 ∷ 0 ∷ []) 0 1 both-taken (0 ∷ 1024 ∷ []) (0 ∷ 0 ∷ []) (plain 7 0 2 0)
 
 contracts : Contracts
-unfolding has missing filled panelSize relays on allOn allOff bitsWhere ruleWord head mustOn mustOff validRule covers contains narrows rules transitionWord state next observed validTransition rests spared goodBook differ told against withWord clash union least sheetWhere permits goodSheet freshSheet takeSheet joinSheet struckCount addedCount pullsIn applySheet freshCode freshAnswer freshWords lentCode bookingCode entryCode innerCode takeCode takeAnswer takeBook takeWords taken learnStep learnWords learnStart reproduced learnEnd learnRun runAnswer runBook runSheet exceeds piecesCode joinCode joinAnswer bookAfter sheetAfter startSession totalsFit sessionAfter sessionAnswer sessionTaken sessionBook sessionWords
+unfolding has missing filled panelSize relays on allOn allOff bitsWhere ruleWord head mustOn mustOff validRule covers contains narrows rules transitionWord state next observed validTransition rests spared goodBook differ told against withWord clash union least sheetWhere permits goodSheet freshSheet takeSheet joinSheet struckCount addedCount pullsIn applySheet freshCode freshAnswer freshWords givenCode bookingCode entryCode innerCode takeCode takeAnswer takeBook takeWords taken learnStep learnWords learnStart reproduced learnEnd learnRun runAnswer runBook runSheet exceeds piecesCode joinCode joinAnswer bookAfter sheetAfter startSession totalsFit sessionAfter sessionAnswer sessionTaken sessionBook sessionWords
 contracts = record {
   k2 = record { answer = refl; book-words = refl; sheet-words = refl };
   one-to-zero = record { answer = refl; book-words = refl; sheet-words = refl };
@@ -106,13 +106,13 @@ pub k2-learns : Learns 1 (transitionWord 0 0 ∷ []) left
 k2-learns = record { book-room = 1; sheet-room = 1; contract = contracts .k2; learned = refl }
 
 -- K11 as a join that was not refused, of what K2 and the learn of "1 to 0" left
-pub k11-joins : Joins 1 (piece-of left) (piece-of right) joined
+pub k11-joins : Joins 1 (pieceOf left) (pieceOf right) joined
 k11-joins = record { book-before = 7 ∷ 7 ∷ 7 ∷ []; sheet-before = 7 ∷ []; contract = contracts .k11; joined = refl }
 
 -- demand 3 of these: K11 and K3 agree, and both are complete
 pub k11-k3 : Same joined whole
-    × Complete 1 (transitionWord 0 0 ∷ transitionWord 1 0 ∷ []) (piece-of joined)
-    × Complete 1 (transitionWord 0 0 ∷ transitionWord 1 0 ∷ []) (piece-of whole)
+    × Complete 1 (transitionWord 0 0 ∷ transitionWord 1 0 ∷ []) (pieceOf joined)
+    × Complete 1 (transitionWord 0 0 ∷ transitionWord 1 0 ∷ []) (pieceOf whole)
 k11-k3 =
     pieces-whole 1 _ _ _ whole left right joined divided
     (record { book-room = 2; sheet-room = 1; contract = contracts .k3; learned = refl })

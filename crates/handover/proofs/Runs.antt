@@ -1,6 +1,6 @@
 -- Learn's run, word by word: while nothing is refused, book and sheet are those of the words read.
 use mathlib.Core.Path.{_≡_, refl, sym, ap, ap₂, _∙_, subst}
-use mathlib.Core.Bool.{Bool, true, false}
+use mathlib.Core.Bool.{Bool, true, false, cond}
 use mathlib.Core.List.{List, [], _∷_, _++_, List·Memᴰ as Mem, List·Memᴰ·head as here, List·Memᴰ·tail as there}
 use Prim.Native.Nat.{ℕ, _+_, _≤_}
 use native.Mathlib.Omega.{arith}
@@ -19,7 +19,7 @@ use Rattle.book.proofs.Telling.{with-good}
 use Rattle.book.proofs.BookOf.{book-from, book-to, book-none, book-with, book-more, book-repeat, book-sheet}
 use Rattle.sheet.proofs.Fresh.{fresh-length}
 use Rattle.calls.proofs.Codes.{size-of}
-use Rattle.learning.specs.Learn.{Run, going, refused, choose, learnWords, learnStart, reproduced, learnEnd, learnRun}
+use Rattle.learning.specs.Learn.{Run, going, refused, learnWords, learnStart, reproduced, learnEnd, learnRun}
 use Rattle.learning.proofs.Ways.{Opening, two, nine-at-once, opened, Way, six, passed-over, seven, eight, nine, taken-up, run-keeps}
 
 -- the words ts have been read: book b, sheet s, sums x and y
@@ -128,7 +128,7 @@ module _ (n bookRoom sheetRoom : ℕ) where
   unfolding learnEnd
   end-run ts (refused c p) f = refl
   end-run ts (going b s x y) f =
-      ap (λ (a : Bool). choose a (refused 10 (reproduced n s b)) (going b s x y))
+      ap (λ (a : Bool). cond a (refused 10 (reproduced n s b)) (going b s x y))
       (le-ltb (reproduced n s b) (length b) (omega (
         arith,
         reproduced-all s b (λ t m.

@@ -14,9 +14,9 @@ use Rattle.book.specs.Books.{goodBook, told, against, withWord, bookOf}
 use Rattle.book.proofs.Books.{book-e, book-increasing}
 use Rattle.book.proofs.Telling.{with-told}
 use Rattle.book.proofs.BookOf.{book-members, book-self, book-with, book-sheet}
-use Rattle.answers.specs.Answers.{refuse, plain, done, answerIf}
+use Rattle.answers.specs.Answers.{refuse, plain, done, ifDone}
 use Rattle.answers.specs.declared.Answer.{Answer}
-use Rattle.answers.proofs.Laws.{answer-done, words-done, answer-refused, words-refused, refuse-both}
+use Rattle.answers.proofs.Laws.{refuse-both, if-refused, if-done}
 use Rattle.calls.specs.Take.{entryCode, takeCode, takeAnswer, takeBook, takeWords, Taken}
 use Rattle.calls.proofs.Codes.{Lent, size-of}
 use Rattle.calls.proofs.Ends.{entry-known}
@@ -71,7 +71,7 @@ module _ (spoilt : Bool) (n : ℕ) (book : List ℕ) (books : ℕ) (sheet : List
     unfolding takeAnswer
     code-is = ap (λ (a : Answer). a .code) (h .answer) ∙ picked code
       where
-        picked : (c : ℕ) → answerIf c (done (length (withWord t (bookIn before))) (length new) (struckCount (sheetIn before) new) (addedCount (sheetIn before) new)) (plain c 0 books sheets) .code ≡ c
+        picked : (c : ℕ) → ifDone c (done (length (withWord t (bookIn before))) (length new) (struckCount (sheetIn before) new) (addedCount (sheetIn before) new)) (plain c 0 books sheets) .code ≡ c
         picked zero = refl
         picked (suc c) = refl
 
@@ -80,9 +80,9 @@ module _ (spoilt : Bool) (n : ℕ) (book : List ℕ) (books : ℕ) (sheet : List
     unfolding takeAnswer takeBook takeWords
     taken-complete z ts is-book is-sheet =
         complete n (k .small) (t ∷ ts) (withWord t (bookIn before)) new (after book′ sheet′ r) (length book) (length sheet)
-        (h .book-words ∙ words-done code _ _ c)
+        (h .book-words ∙ if-done code _ _ c)
         (ap (λ (a : Answer). a .«book_count») answers)
-        (h .sheet-words ∙ words-done code _ _ c)
+        (h .sheet-words ∙ if-done code _ _ c)
         (ap (λ (a : Answer). a .«sheet_count») answers)
         (ap (withWord t) is-book ∙ book-with t ts)
         (ap (λ (z : List ℕ). takeSheet n z t) is-sheet ∙ take-sheetOf n (k .small) ts t)
@@ -94,7 +94,7 @@ module _ (spoilt : Bool) (n : ℕ) (book : List ℕ) (books : ℕ) (sheet : List
         k = known c
 
         answers : r ≡ done (length (withWord t (bookIn before))) (length new) (struckCount (sheetIn before) new) (addedCount (sheetIn before) new)
-        answers = h .answer ∙ answer-done code _ _ c
+        answers = h .answer ∙ if-done code _ _ c
 
     -- done: from book and sheet of ts to the complete result for ts and the transition
     pub take-complete : (ts : List ℕ) → InUse n ts before → r .code ≡ 0 → Complete n (t ∷ ts) (after book′ sheet′ r)
@@ -109,13 +109,13 @@ module _ (spoilt : Bool) (n : ℕ) (book : List ℕ) (books : ℕ) (sheet : List
         g e = f (code-is ∙ e)
 
         eb : book′ ≡ book
-        eb = h .book-words ∙ words-refused code _ _ g
+        eb = h .book-words ∙ if-refused code _ _ g
 
         es : sheet′ ≡ sheet
-        es = h .sheet-words ∙ words-refused code _ _ g
+        es = h .sheet-words ∙ if-refused code _ _ g
 
         er : r ≡ plain code 0 books sheets
-        er = h .answer ∙ answer-refused code _ _ g
+        er = h .answer ∙ if-refused code _ _ g
 
     -- told: the panel's size is right, and the book tells of the transition
     told-old : r .code ≡ 1 → (n ≤ 10) × (told t (bookIn before) ≡ true)

@@ -28,14 +28,14 @@ pub data Row : Type 0 where
   applies : (n : ℕ) (sheet : List ℕ) (sheets x : ℕ) (answer : Answer) (state : ℕ) → Row
 
 -- whatever satisfies the contract of the call has the answer and the words of the row
-abbrev pub Stands : Row → Type 0
-Stands (learns n words bookRoom sheetRoom a b s) =
+abbrev pub RowStands : Row → Type 0
+RowStands (learns n words bookRoom sheetRoom a b s) =
     (r : Answer) (book sheet : List ℕ) → Learned n words bookRoom sheetRoom book sheet r → (r ≡ a) × (book ≡ b) × (sheet ≡ s)
-Stands (takes n oldBook books oldSheet sheets i j a b s) =
+RowStands (takes n oldBook books oldSheet sheets i j a b s) =
     (r : Answer) (book sheet : List ℕ) → Taken false n oldBook books oldSheet sheets i j book sheet r → (r ≡ a) × (book ≡ b) × (sheet ≡ s)
-Stands (joins n p q oldBook oldSheet a b s) =
+RowStands (joins n p q oldBook oldSheet a b s) =
     (r : Answer) (book sheet : List ℕ) → Joined n p q oldBook oldSheet r book sheet → (r ≡ a) × (book ≡ b) × (sheet ≡ s)
-Stands (applies n sheet sheets x a y) =
+RowStands (applies n sheet sheets x a y) =
     (r : Applied) → r ≡ applyAnswer n sheet sheets x → (r .answer ≡ a) × (r .state ≡ y)
 
 -- ---- the test of a row, by computing the call's definition

@@ -16,22 +16,22 @@ use Rattle.joining.specs.Joining.{Piece, piece, bookIn, sheetIn, Joined}
 -- ---- what a call leaves
 
 -- both slices as the call left them, and its answer
-pub record Outcome : Type 0 where
+pub record Left : Type 0 where
   pub book : List ℕ
   pub sheet : List ℕ
   pub answer : Answer
 
 -- book and sheet as a later call is lent them: what the call left, with the counts that it answered
-abbrev pub lent : Outcome → Piece
-lent o = piece (o .book) (o .answer .«book_count») (o .sheet) (o .answer .«sheet_count»)
+abbrev pub pieceOf : Left → Piece
+pieceOf o = piece (o .book) (o .answer .«book_count») (o .sheet) (o .answer .«sheet_count»)
 
 -- the words of the book in use
-abbrev pub bookUsed : Outcome → List ℕ
-bookUsed o = bookIn (lent o)
+abbrev pub bookUsed : Left → List ℕ
+bookUsed o = bookIn (pieceOf o)
 
 -- the words of the sheet in use
-abbrev pub sheetUsed : Outcome → List ℕ
-sheetUsed o = sheetIn (lent o)
+abbrev pub sheetUsed : Left → List ℕ
+sheetUsed o = sheetIn (pieceOf o)
 
 -- ---- demand 2
 
@@ -59,7 +59,7 @@ pub record Complete (n : ℕ) (ts : List ℕ) (p : Piece) : Type 0 where
   pub sheet-rest : ZeroFrom (p .sheet-count) (p .sheet-words)
 
 -- a learn of the words ts in slices of some room ended with o, and was not refused
-pub record Learns (n : ℕ) (ts : List ℕ) (o : Outcome) : Type 0 where
+pub record Learns (n : ℕ) (ts : List ℕ) (o : Left) : Type 0 where
   pub book-room : ℕ
   pub sheet-room : ℕ
   pub contract : Learned n ts book-room sheet-room (o .book) (o .sheet) (o .answer)
@@ -68,7 +68,7 @@ pub record Learns (n : ℕ) (ts : List ℕ) (o : Outcome) : Type 0 where
 -- ---- demand 3
 
 -- two outcomes with the same words in use and the same counts
-pub record Same (o q : Outcome) : Type 0 where
+pub record Same (o q : Left) : Type 0 where
   pub books : bookUsed o ≡ bookUsed q
   pub sheets : sheetUsed o ≡ sheetUsed q
   pub book-counts : o .answer .«book_count» ≡ q .answer .«book_count»
@@ -81,7 +81,7 @@ pub record Divided (ts ps qs : List ℕ) : Type 0 where
   pub covered : (t : ℕ) → Mem t ts → Mem t ps ⊎ Mem t qs
 
 -- a join of the pieces p and q, in slices of some room and with any words in them before, ended with o, and was not refused
-pub record Joins (n : ℕ) (p q : Piece) (o : Outcome) : Type 0 where
+pub record Joins (n : ℕ) (p q : Piece) (o : Left) : Type 0 where
   pub book-before : List ℕ
   pub sheet-before : List ℕ
   pub contract : Joined n p q book-before sheet-before (o .answer) (o .book) (o .sheet)

@@ -56,7 +56,7 @@ size-stays lay (l ∷ ls) st k h p =
 -- ---- the number after `.p`
 
 -- once `.p` stood there, its number and its place stay
-pub record Counted (v p : ℕ) (st : State) : Type 0 where
+pub record CountStood (v p : ℕ) (st : State) : Type 0 where
   pub is : st .seen .count ≡ true
   pub count : st .want ≡ v
   pub at : st .place ≡ p
@@ -64,20 +64,20 @@ pub record Counted (v p : ℕ) (st : State) : Type 0 where
 count-stays : (st : State) (l : Line) (k : ℕ) → st .seen .count ≡ true → nextOf st l k .seen .count ≡ true
 count-stays st l k c = has-next st l k Count ∙ or-r (isHeader Count l) (hasHeader (st .seen) Count) c
 
-next-counted : (lay : Layout) (st : State) (l : Line) (k v p : ℕ) → Counted v p st → allowedOf lay st l ≡ true → Counted v p (nextOf st l k)
+next-counted : (lay : Layout) (st : State) (l : Line) (k v p : ℕ) → CountStood v p st → allowedOf lay st l ≡ true → CountStood v p (nextOf st l k)
 next-counted lay st l k v p c a =
     let g = next-goes st l k in
     let other : isHeader Count l ≡ false = false-test (isHeader Count l) (λ e. false≢true (sym (new-header lay st l Count a e) ∙ c .is)) in
     record { is = count-stays st l k (c .is); count = g .want other ∙ c .count; at = g .place other ∙ c .at }
 
-pub after-counted : (lay : Layout) (ls : List (List ℕ)) (st : State) (k v p : ℕ) → Counted v p st → passes lay ls st k ≡ true → Counted v p (after ls st k)
+pub after-counted : (lay : Layout) (ls : List (List ℕ)) (st : State) (k v p : ℕ) → CountStood v p st → passes lay ls st k ≡ true → CountStood v p (after ls st k)
 unfolding stateAfter allowedAt nextAt
 after-counted lay [] st k v p c h = c
 after-counted lay (l ∷ ls) st k v p c h =
     after-counted lay ls (nextOf st (lineOf l) k) (k + 1) v p (next-counted lay st (lineOf l) k v p c (pass-here (allowedAt lay) nextAt l ls st k h)) (pass-more (allowedAt lay) nextAt l ls st k h)
 
 pub counted-at : (lay : Layout) (ls pre : List (List ℕ)) (l : List ℕ) (post : List (List ℕ)) (st : State) (k v : ℕ) → ls ≡ pre ++ l ∷ post → lineOf l ≡ Rows v
-    → passes lay ls st k ≡ true → Counted v (length pre + k) (after ls st k)
+    → passes lay ls st k ≡ true → CountStood v (length pre + k) (after ls st k)
 unfolding stateAfter allPass nextAt
 counted-at lay ls pre l post st k v s e h =
     rw (s, after-append nextAt pre (l ∷ post) st k)

@@ -26,7 +26,7 @@ use Rattle.headers.specs.declared.Verdict.the-variants.{Good, Bad}
 use Rattle.headers.proofs.Passing.{stateAfter, allPass, Stuck, pass-or-stuck, pass-first, pass-append, pass-others, after-append}
 use Rattle.headers.proofs.Machine.{passes, after, judge-passing, judge-stuck, after-rows, after-ended}
 use Rattle.headers.proofs.Seeing.{next-goes, has-next, count-line}
-use Rattle.headers.proofs.After.{Counted, counted-at, count-in, alike-pass}
+use Rattle.headers.proofs.After.{CountStood, counted-at, count-in, alike-pass}
 use Rattle.headers.proofs.Completing.{sound-passing, leads-on}
 use Rattle.headers.proofs.Accepting.{good-or-bad, finish-i, good-text, text-passes, good-iff-text}
 
@@ -185,7 +185,7 @@ module _ (lay : Layout) (t : List ℕ) where
       wrong : last .ended ≡ true → last .seen .count ≡ true → eqb (last .want) (last .rows) ≡ false → Bad k ≡ Bad (last .place) → WrongCount lay t k
       wrong e c w v =
           let i = count-in (linesOf t) freshState 1 refl c in
-          let d : Counted (i .count) (length (i .before) + 1) last = counted-at lay (linesOf t) (i .before) (i .line) (i .after) freshState 1 (i .count) (i .lines) (i .counts) p in
+          let d : CountStood (i .count) (length (i .before) + 1) last = counted-at lay (linesOf t) (i .before) (i .line) (i .after) freshState 1 (i .count) (i .lines) (i .counts) p in
           record {
             before = i .before;
             line = i .line;
@@ -230,7 +230,7 @@ module _ (lay : Layout) (t : List ℕ) where
   unfolding finishOf
   count-bad k w =
       let p = begins-passes lay (linesOf t) (w .begins) in
-      let d : Counted (w .count) (length (w .before) + 1) last = counted-at lay (linesOf t) (w .before) (w .line) (w .after) freshState 1 (w .count) (w .lines) (w .counts) p in
+      let d : CountStood (w .count) (length (w .before) + 1) last = counted-at lay (linesOf t) (w .before) (w .line) (w .after) freshState 1 (w .count) (w .lines) (w .counts) p in
       passing-verdict p
       ∙ rw (ended-is ∙ w .ended, d .is, ne-eqb (last .want) (last .rows) (λ q. w .wrong (sym (d .count) ∙ q ∙ rows-are)))
       (ap Bad (d .at ∙ sym (w .number)))

@@ -13,9 +13,9 @@ use Rattle.prime.specs.Sheets.{goodSheet}
 use Rattle.book.proofs.Books.{book-e}
 use Rattle.answers.specs.Answers.{plain, done}
 use Rattle.answers.specs.declared.Answer.{Answer}
-use Rattle.answers.proofs.Laws.{answer-refused, words-refused, answer-done, words-done}
 use Rattle.joining.specs.Joining.{Piece, bookIn, sheetIn, joinedBook, joinedSheet, joinCode, joinAnswer, bookAfter, sheetAfter, Fills, Joined, GoodPieces, Joinable}
 use Rattle.joining.proofs.Judging.{size-in}
+use Rattle.answers.proofs.Laws.{if-refused, if-done}
 
 -- ---- what counting and writing ask for
 
@@ -49,9 +49,9 @@ module _ (n : ℕ) (a b : Piece) (book sheet : List ℕ) (code : ℕ) (ec : code
   join-refused h r er =
       let f : joinCode n a b (length book) (length sheet) ≡ 0 → ⊥ = λ z. h (ec ∙ z) in
       record {
-        answer = er ∙ ap (λ (c : ℕ). plain c 0 0 0) ec ∙ sym (answer-refused (joinCode n a b (length book) (length sheet)) _ _ f);
-        book-left = sym (words-refused (joinCode n a b (length book) (length sheet)) _ book f);
-        sheet-left = sym (words-refused (joinCode n a b (length book) (length sheet)) _ sheet f);
+        answer = er ∙ ap (λ (c : ℕ). plain c 0 0 0) ec ∙ sym (if-refused (joinCode n a b (length book) (length sheet)) _ _ f);
+        book-left = sym (if-refused (joinCode n a b (length book) (length sheet)) _ book f);
+        sheet-left = sym (if-refused (joinCode n a b (length book) (length sheet)) _ sheet f);
       }
 
   pub join-done : code ≡ 0 → (books sheets : ℕ) (book′ sheet′ : List ℕ) → Fills book′ books (length book) (joinedBook a b) → Fills sheet′ sheets (length sheet) (joinedSheet n a b)
@@ -60,7 +60,7 @@ module _ (n : ℕ) (a b : Piece) (book sheet : List ℕ) (code : ℕ) (ec : code
   join-done h books sheets book′ sheet′ fb fs r er =
       let z : joinCode n a b (length book) (length sheet) ≡ 0 = sym ec ∙ h in
       record {
-        answer = er ∙ ap₂ (λ (x y : ℕ). done x y 0 0) (fb .count) (fs .count) ∙ sym (answer-done (joinCode n a b (length book) (length sheet)) _ _ z);
-        book-left = fb .words ∙ sym (words-done (joinCode n a b (length book) (length sheet)) _ book z);
-        sheet-left = fs .words ∙ sym (words-done (joinCode n a b (length book) (length sheet)) _ sheet z);
+        answer = er ∙ ap₂ (λ (x y : ℕ). done x y 0 0) (fb .count) (fs .count) ∙ sym (if-done (joinCode n a b (length book) (length sheet)) _ _ z);
+        book-left = fb .words ∙ sym (if-done (joinCode n a b (length book) (length sheet)) _ book z);
+        sheet-left = fs .words ∙ sym (if-done (joinCode n a b (length book) (length sheet)) _ sheet z);
       }

@@ -9,7 +9,7 @@ use Rattle.table.specs.Surgery.{filled}
 use Rattle.panel.specs.Masks.{panelSize}
 use Rattle.prime.specs.Sheets.{goodSheet, joinSheet}
 use Rattle.book.specs.Books.{goodBook, clash, union}
-use Rattle.answers.specs.Answers.{refuse, plain, done, answerIf, wordsIf}
+use Rattle.answers.specs.Answers.{refuse, plain, done, ifDone}
 use Rattle.answers.specs.declared.Answer.{Answer}
 
 -- ---- a piece of a recording
@@ -68,17 +68,17 @@ joinCode n a b bookRoom sheetRoom =
 -- the answer: done, with the counts of the joined book and sheet; or the code with counts 0
 unfoldable pub joinAnswer : ℕ → Piece → Piece → ℕ → ℕ → Answer
 joinAnswer n a b bookRoom sheetRoom =
-    answerIf (joinCode n a b bookRoom sheetRoom)
+    ifDone (joinCode n a b bookRoom sheetRoom)
     (done (length (joinedBook a b)) (length (joinedSheet n a b)) 0 0)
     (plain (joinCode n a b bookRoom sheetRoom) 0 0 0)
 
 -- the slice `book` afterwards: the joined book and 0 in every word beyond, or as it was
 unfoldable pub bookAfter : ℕ → Piece → Piece → List ℕ → List ℕ → List ℕ
-bookAfter n a b book sheet = wordsIf (joinCode n a b (length book) (length sheet)) (filled (length book) (joinedBook a b)) book
+bookAfter n a b book sheet = ifDone (joinCode n a b (length book) (length sheet)) (filled (length book) (joinedBook a b)) book
 
 -- the slice `sheet` afterwards: the joined sheet and 0 in every word beyond, or as it was
 unfoldable pub sheetAfter : ℕ → Piece → Piece → List ℕ → List ℕ → List ℕ
-sheetAfter n a b book sheet = wordsIf (joinCode n a b (length book) (length sheet)) (filled (length sheet) (joinedSheet n a b)) sheet
+sheetAfter n a b book sheet = ifDone (joinCode n a b (length book) (length sheet)) (filled (length sheet) (joinedSheet n a b)) sheet
 
 -- the words tab fill the slice s of `room` words, with 0 in every word beyond, and r is their number
 pub record Fills (s : List ℕ) (r room : ℕ) (tab : List ℕ) : Type 0 where

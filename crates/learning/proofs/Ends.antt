@@ -1,6 +1,6 @@
 -- The end of learn: the self-check, and what is left in both slices.
 use mathlib.Core.Path.{_≡_, refl, sym, ap, ap₂, _∙_, subst}
-use mathlib.Core.Bool.{Bool, true, false, not, _&&_}
+use mathlib.Core.Bool.{Bool, true, false, not, _&&_, cond}
 use mathlib.Core.List.{List, [], _∷_}
 use Prim.Native.Nat.{ℕ, zero, suc, _+_, _≤_, _<_}
 use native.Mathlib.Numerals.{add-one}
@@ -18,8 +18,8 @@ use Rattle.panel.specs.Transitions.{state, next}
 use Rattle.prime.specs.Sheets.{goodSheet, antichain, applySheet}
 use Rattle.answers.specs.Answers.{plain, done}
 use Rattle.answers.specs.declared.Answer.{Answer}
-use Rattle.learning.specs.Learn.{Run, going, refused, choose, learnWords, learnStart, reproduced, learnEnd, learnRun, runAnswer, runBook, runSheet, Learned}
-use Rattle.learning.specs.Running.{runOf, Sound, Fit, Through, Begun, Finished}
+use Rattle.learning.specs.Learn.{Run, going, refused, learnWords, learnStart, reproduced, learnEnd, learnRun, runAnswer, runBook, runSheet, Learned}
+use Rattle.learning.specs.Running.{runOf, GoodTables, Fit, Through, Begun, Finished}
 use Rattle.learning.proofs.Words.{runOf-going, runOf-refused}
 
 -- ---- how many words are reproduced
@@ -75,7 +75,7 @@ module _ (n : ℕ) (so : Answer) (book sheet : List ℕ) where
       as-refused (so .code) (so .place) so bz sz (ap (learnEnd n) (runOf-refused so book sheet g)) (f .alone g) eb es
 
   module _ (f : Fit n so book sheet) (z : so .code ≡ 0) where
-    sd : Sound n so book sheet
+    sd : GoodTables n so book sheet
     sd = f .sound z
 
     abbrev b : List ℕ
@@ -99,7 +99,7 @@ module _ (n : ℕ) (so : Answer) (book sheet : List ℕ) where
     s-length : length s ≡ so .«sheet_count»
     s-length = length-take-le (so .«sheet_count») sheet (sd .sheets-in)
 
-    end-is : learnEnd n (runOf so book sheet) ≡ choose (ltb (reproduced n s b) (length b)) (refused 10 (reproduced n s b)) (going b s (so .struck) (so .added))
+    end-is : learnEnd n (runOf so book sheet) ≡ cond (ltb (reproduced n s b) (length b)) (refused 10 (reproduced n s b)) (going b s (so .struck) (so .added))
     unfolding learnEnd
     end-is = ap (learnEnd n) (runOf-going so book sheet z)
 
@@ -107,14 +107,14 @@ module _ (n : ℕ) (so : Answer) (book sheet : List ℕ) where
       pub end-ten : p < so .«book_count» → (r : Answer) → r ≡ plain 10 p 0 0 → (bz sz : List ℕ) → bz ≡ replicate (length book) 0 → sz ≡ replicate (length sheet) 0 → Finished n so book sheet r bz sz
       end-ten l r er bz sz eb es =
           as-refused 10 p r bz sz
-          (end-is ∙ ap₂ (λ (q : Bool) (m : ℕ). choose q (refused 10 m) (going b s (so .struck) (so .added))) (lt-ltb (reproduced n s b) (length b) (omega (arith, ep, b-length))) (sym ep))
+          (end-is ∙ ap₂ (λ (q : Bool) (m : ℕ). cond q (refused 10 m) (going b s (so .struck) (so .added))) (lt-ltb (reproduced n s b) (length b) (omega (arith, ep, b-length))) (sym ep))
           er eb es
 
       pub end-done : so .«book_count» ≤ p → (bz sz : List ℕ) → bz ≡ clearedFrom (so .«book_count») book → sz ≡ clearedFrom (so .«sheet_count») sheet → Finished n so book sheet so bz sz
       unfolding runAnswer runBook runSheet
       end-done l bz sz eb es =
           let e : learnEnd n (runOf so book sheet) ≡ going b s (so .struck) (so .added) =
-          end-is ∙ ap (λ (q : Bool). choose q (refused 10 (reproduced n s b)) (going b s (so .struck) (so .added))) (le-ltb (reproduced n s b) (length b) (omega (arith, ep, b-length))) in
+          end-is ∙ ap (λ (q : Bool). cond q (refused 10 (reproduced n s b)) (going b s (so .struck) (so .added))) (le-ltb (reproduced n s b) (length b) (omega (arith, ep, b-length))) in
           record {
             answer = sd .as-done ∙ ap₂ (λ (u v : ℕ). done u v (so .struck) (so .added)) (sym b-length) (sym s-length) ∙ sym (ap runAnswer e);
             book-words = holds-filled book bz (so .«book_count») (length book) b (record { is = refl; fits = sd .books-in; same = refl }) eb ∙ sym (ap (runBook (length book)) e);

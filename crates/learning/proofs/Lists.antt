@@ -1,6 +1,6 @@
 -- Learn over a list: the start, and word after word.
 use mathlib.Core.Path.{_≡_, refl, sym, ap, ap₂, _∙_, subst}
-use mathlib.Core.Bool.{Bool, true, false, not}
+use mathlib.Core.Bool.{Bool, true, false, not, cond}
 use mathlib.Core.List.{List, [], _∷_, _++_}
 use Prim.Native.Nat.{ℕ, zero, suc, _+_, _≤_, _<_}
 use native.Mathlib.Numerals.{add-one}
@@ -20,8 +20,8 @@ use Rattle.answers.specs.Answers.{refuse, plain, done}
 use Rattle.answers.specs.declared.Answer.{Answer}
 use Rattle.calls.specs.Fresh.{freshCode}
 use Rattle.calls.proofs.Ends.{fresh-none}
-use Rattle.learning.specs.Learn.{Run, going, refused, choose, learnStep, learnWords, learnStart}
-use Rattle.learning.specs.Running.{runOf, Sound, Fit, Stepped, Through, Begun}
+use Rattle.learning.specs.Learn.{Run, going, refused, learnStep, learnWords, learnStart}
+use Rattle.learning.specs.Running.{runOf, GoodTables, Fit, WordLearned, Through, Begun}
 use Rattle.learning.proofs.Words.{runOf-going, runOf-refused}
 
 -- ---- the start
@@ -30,7 +30,7 @@ start-refused : (n room : ℕ) → (freshCode n room ≡ 0 → ⊥) → learnSta
 unfolding learnStart freshCode
 start-refused n room f = go (not (panelSize n)) (ltb room n) f
   where
-    go : (a b : Bool) → (refuse a 2 (refuse b 9 0) ≡ 0 → ⊥) → choose a (refused 2 0) (choose b (refused 9 0) (going [] (freshSheet n) 0 0)) ≡ refused (refuse a 2 (refuse b 9 0)) 0
+    go : (a b : Bool) → (refuse a 2 (refuse b 9 0) ≡ 0 → ⊥) → cond a (refused 2 0) (cond b (refused 9 0) (going [] (freshSheet n) 0 0)) ≡ refused (refuse a 2 (refuse b 9 0)) 0
     go true b g = refl
     go false true g = refl
     go false false g = absurd (g refl)
@@ -39,7 +39,7 @@ start-going : (n room : ℕ) → freshCode n room ≡ 0 → learnStart n room �
 unfolding learnStart freshCode
 start-going n room e = go (not (panelSize n)) (ltb room n) e
   where
-    go : (a b : Bool) → refuse a 2 (refuse b 9 0) ≡ 0 → choose a (refused 2 0) (choose b (refused 9 0) (going [] (freshSheet n) 0 0)) ≡ going [] (freshSheet n) 0 0
+    go : (a b : Bool) → refuse a 2 (refuse b 9 0) ≡ 0 → cond a (refused 2 0) (cond b (refused 9 0) (going [] (freshSheet n) 0 0)) ≡ going [] (freshSheet n) 0 0
     go true b p = absurd (omega (arith, p))
     go false true p = absurd (omega (arith, p))
     go false false p = refl
@@ -101,7 +101,7 @@ pub learning-start : (n : ℕ) (ts : List ℕ) (a : Answer) (book sheet : List �
 learning-start n ts a book sheet f = record { left = refl; fit = f; book-room = refl; sheet-room = refl }
 
 module _ (n : ℕ) (ts : List ℕ) (a : Answer) (book sheet : List ℕ) (k : ℕ) (so : Answer) (bz sz : List ℕ) (q : Learning n ts a book sheet k so bz sz) where
-  pub learning-more : k < length ts → (r : Answer) (by sy : List ℕ) → length by ≡ length bz → length sy ≡ length sz → Stepped n k (getD ts k 0) so bz sz r by sy → Learning n ts a book sheet (k + 1) r by sy
+  pub learning-more : k < length ts → (r : Answer) (by sy : List ℕ) → length by ≡ length bz → length sy ≡ length sz → WordLearned n k (getD ts k 0) so bz sz r by sy → Learning n ts a book sheet (k + 1) r by sy
   unfolding learnWords
   learning-more l r by sy lb ls h = record {
     left =

@@ -1,6 +1,6 @@
 -- The ways through learn, at the start and at a word, and the one induction over its words: what is kept on every way holds of the whole run.
 use mathlib.Core.Path.{_≡_, refl, sym, subst}
-use mathlib.Core.Bool.{Bool, true, false, not}
+use mathlib.Core.Bool.{Bool, true, false, not, cond}
 use mathlib.Core.List.{List, [], _∷_, _++_, append-assoc, append-nil}
 use Prim.Native.Nat.{ℕ, _+_, _≤_, _<_}
 use native.Mathlib.Omega.{arith}
@@ -11,7 +11,7 @@ use Rattle.panel.specs.Masks.{panelSize}
 use Rattle.panel.specs.Transitions.{validTransition}
 use Rattle.prime.specs.Sheets.{freshSheet, takeSheet, struckCount, addedCount}
 use Rattle.book.specs.Books.{told, against, withWord}
-use Rattle.learning.specs.Learn.{Run, going, refused, choose, taken, learnStep, learnWords, learnStart}
+use Rattle.learning.specs.Learn.{Run, going, refused, taken, learnStep, learnWords, learnStart}
 
 -- ---- the start
 
@@ -25,7 +25,7 @@ pub opening : (n sheetRoom : ℕ) → Opening n sheetRoom (learnStart n sheetRoo
 unfolding learnStart
 opening n sheetRoom = go (panelSize n) (ltb sheetRoom n) refl refl
   where
-    go : (a f : Bool) → panelSize n ≡ a → ltb sheetRoom n ≡ f → Opening n sheetRoom (choose (not a) (refused 2 0) (choose f (refused 9 0) (going [] (freshSheet n) 0 0)))
+    go : (a f : Bool) → panelSize n ≡ a → ltb sheetRoom n ≡ f → Opening n sheetRoom (cond (not a) (refused 2 0) (cond f (refused 9 0) (going [] (freshSheet n) 0 0)))
     go false f e q = two e
     go true true e q = nine-at-once e (ltb-true sheetRoom n q)
     go true false e q = opened e (ltb-false sheetRoom n q)
@@ -50,7 +50,7 @@ way n bookRoom sheetRoom k t b s x y =
   where
     go : (v h o f g : Bool) → validTransition n t ≡ v → told t b ≡ h → against t b ≡ o → ltb bookRoom (length (withWord t b)) ≡ f → ltb sheetRoom (length (takeSheet n s t)) ≡ g
         → Way n bookRoom sheetRoom k t b s x y
-        (choose (not v) (refused 6 k) (choose h (going b s x y) (choose o (refused 7 k) (choose f (refused 8 k) (choose g (refused 9 k)
+        (cond (not v) (refused 6 k) (cond h (going b s x y) (cond o (refused 7 k) (cond f (refused 8 k) (cond g (refused 9 k)
         (going (withWord t b) (takeSheet n s t) (x + struckCount s (takeSheet n s t)) (y + addedCount s (takeSheet n s t))))))))
     go false h o f g ev eh eo ef eg = six ev
     go true true o f g ev eh eo ef eg = passed-over ev eh

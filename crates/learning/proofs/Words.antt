@@ -1,6 +1,6 @@
 -- One word of learn: one law for each way through.
 use mathlib.Core.Path.{_≡_, refl, sym, ap, ap₂, _∙_, subst}
-use mathlib.Core.Bool.{Bool, true, false, not}
+use mathlib.Core.Bool.{Bool, true, false, not, cond}
 use mathlib.Core.List.{List}
 use Prim.Native.Nat.{ℕ, zero, suc, _+_, _*_, _^_, _≤_, _<_}
 use native.Mathlib.Omega.{arith}
@@ -22,14 +22,14 @@ use Rattle.prime.proofs.Passes.{rule-small}
 use Rattle.book.specs.Books.{statesUp, goodBook, told, against, withWord}
 use Rattle.book.proofs.Books.{book-e, book-increasing}
 use Rattle.book.proofs.Telling.{with-longer, with-good}
-use Rattle.answers.specs.Answers.{refuse, plain, done, answerIf}
+use Rattle.answers.specs.Answers.{refuse, plain, done, ifDone}
 use Rattle.answers.specs.declared.Answer.{Answer}
-use Rattle.answers.proofs.Laws.{refuse-none, answer-done}
+use Rattle.answers.proofs.Laws.{refuse-none, if-done}
 use Rattle.calls.specs.Take.{bookingCode, innerCode, innerAnswer, Ready, Inner}
 use Rattle.calls.proofs.Codes.{booking-none}
 use Rattle.calls.proofs.Ends.{fits-ten}
-use Rattle.learning.specs.Learn.{Run, going, refused, choose, taken, wordCode, learnStep}
-use Rattle.learning.specs.Running.{runIf, runOf, Sound, Fit, Next, Stepped}
+use Rattle.learning.specs.Learn.{Run, going, refused, taken, wordCode, learnStep}
+use Rattle.learning.specs.Running.{runIf, runOf, GoodTables, Fit, Next, WordLearned}
 
 state-word-few : (t : ℕ) → state t < 1024 → t < 1048576
 unfolding state
@@ -75,7 +75,7 @@ module _ (n br sr k t : ℕ) (b s : List ℕ) (x y c : ℕ) (ec : c ≡ wordCode
   unfolding learnStep wordCode bookingCode stepIf
   step-is = go (not (validTransition n t)) (told t b) (against t b) (ltb br (length (withWord t b))) ∙ ap (λ (m : ℕ). stepIf m k (going b s x y) taking) (sym ec)
     where
-      go : (v h g f : Bool) → choose v (refused 6 k) (choose h (going b s x y) (choose g (refused 7 k) (choose f (refused 8 k) taking)))
+      go : (v h g f : Bool) → cond v (refused 6 k) (cond h (going b s x y) (cond g (refused 7 k) (cond f (refused 8 k) taking)))
           ≡ stepIf (refuse v 6 (refuse h 1 (refuse g 7 (refuse f 8 0)))) k (going b s x y) taking
       go true h g f = refl
       go false true g f = refl
@@ -121,7 +121,7 @@ code-none n t room b e = let a = refuse-none (not (validTransition n t)) 5 _ e i
 
 module _ (n k t : ℕ) (a : Answer) (book sheet : List ℕ) where
   -- a refusal stands
-  pub word-stands : Fit n a book sheet → (a .code ≡ 0 → ⊥) → Stepped n k t a book sheet a book sheet
+  pub word-stands : Fit n a book sheet → (a .code ≡ 0 → ⊥) → WordLearned n k t a book sheet a book sheet
   unfolding learnStep
   word-stands f g = record {
     run = runOf-refused a book sheet g ∙ sym (ap (learnStep n (length book) (length sheet) k t) (runOf-refused a book sheet g));
@@ -141,7 +141,7 @@ module _ (n k t : ℕ) (a : Answer) (book sheet : List ℕ) where
     from-going : learnStep n (length book) (length sheet) k t (runOf a book sheet) ≡ step
     from-going = ap (learnStep n (length book) (length sheet) k t) (runOf-going a book sheet z)
 
-    refusal : (r : Answer) (c : ℕ) → r ≡ plain c k 0 0 → (c ≡ 0 → ⊥) → step ≡ refused c k → (bz sz : List ℕ) → Stepped n k t a book sheet r bz sz
+    refusal : (r : Answer) (c : ℕ) → r ≡ plain c k 0 0 → (c ≡ 0 → ⊥) → step ≡ refused c k → (bz sz : List ℕ) → WordLearned n k t a book sheet r bz sz
     refusal r c er f es bz sz = record {
       run = runOf-plain r c k bz sz er f ∙ sym (from-going ∙ es);
       fit = record {
@@ -158,13 +158,13 @@ module _ (n k t : ℕ) (a : Answer) (book sheet : List ℕ) where
       word-asks = (f .sound z .small, book-e n b (f .sound z .good-book) .rising)
 
       module _ (c : ℕ) (ec : c ≡ wordCode n t (length book) b) where
-        pub word-repeat : c ≡ 1 → Stepped n k t a book sheet a book sheet
+        pub word-repeat : c ≡ 1 → WordLearned n k t a book sheet a book sheet
         word-repeat q = record {
           run = runOf-going a book sheet z ∙ sym (from-going ∙ step-repeat n (length book) (length sheet) k t b s (a .struck) (a .added) c ec q);
           fit = f;
         }
 
-        pub word-refused : (c ≡ 1 → ⊥) → (c ≡ 0 → ⊥) → (r : Answer) → r ≡ plain c k 0 0 → Stepped n k t a book sheet r book sheet
+        pub word-refused : (c ≡ 1 → ⊥) → (c ≡ 0 → ⊥) → (r : Answer) → r ≡ plain c k 0 0 → WordLearned n k t a book sheet r book sheet
         word-refused f1 f0 r er = refusal r c er f0 (step-refused n (length book) (length sheet) k t b s (a .struck) (a .added) c ec f1 f0) book sheet
 
         pub word-next : c ≡ 0 → Next n t a book sheet
@@ -176,7 +176,7 @@ module _ (n k t : ℕ) (a : Answer) (book sheet : List ℕ) where
     abbrev z : a .code ≡ 0
     z = x .done-so-far
 
-    sd : Sound n a book sheet
+    sd : GoodTables n a book sheet
     sd = x .sound
 
     passes : (validTransition n t ≡ true) × (bookingCode t (length book) b ≡ 0)
@@ -203,7 +203,7 @@ module _ (n k t : ℕ) (a : Answer) (book sheet : List ℕ) where
     new = takeSheet n s t
 
     module _ (bz sz : List ℕ) (w : Answer) (h : Inner n t book (a .«book_count») sheet (a .«sheet_count») bz sz w) where
-      takes : step ≡ choose (ltb (length sheet) (length new)) (refused 9 k) (going (withWord t b) new (a .struck + struckCount s new) (a .added + addedCount s new))
+      takes : step ≡ cond (ltb (length sheet) (length new)) (refused 9 k) (going (withWord t b) new (a .struck + struckCount s new) (a .added + addedCount s new))
       unfolding taken
       takes = step-takes n (length book) (length sheet) k t b s (a .struck) (a .added) 0 (sym (x .passes)) refl
 
@@ -214,18 +214,18 @@ module _ (n k t : ℕ) (a : Answer) (book sheet : List ℕ) where
           ∙ picked (refuse (ltb (length sheet) (length new)) 9 0)
           ∙ ap (λ (q : Bool). refuse q 9 0) ex
         where
-          picked : (m : ℕ) → (answerIf m (done (length (withWord t b)) (length new) (struckCount s new) (addedCount s new)) (plain m 0 (a .«book_count») (a .«sheet_count»))) .code ≡ m
+          picked : (m : ℕ) → (ifDone m (done (length (withWord t b)) (length new) (struckCount s new) (addedCount s new)) (plain m 0 (a .«book_count») (a .«sheet_count»))) .code ≡ m
           picked zero = refl
           picked (suc m) = refl
 
-      pub next-nine : (w .code ≡ 0 → ⊥) → (r : Answer) → r ≡ plain (w .code) k 0 0 → Stepped n k t a book sheet r bz sz
+      pub next-nine : (w .code ≡ 0 → ⊥) → (r : Answer) → r ≡ plain (w .code) k 0 0 → WordLearned n k t a book sheet r bz sz
       next-nine g r er = go (ltb (length sheet) (length new)) refl
         where
-          go : (x : Bool) → ltb (length sheet) (length new) ≡ x → Stepped n k t a book sheet r bz sz
+          go : (x : Bool) → ltb (length sheet) (length new) ≡ x → WordLearned n k t a book sheet r bz sz
           go false ex = absurd (g (code-cases false ex))
           go true ex =
               refusal z r (w .code) er g
-              (takes ∙ ap (λ (q : Bool). choose q (refused 9 k) (going (withWord t b) new (a .struck + struckCount s new) (a .added + addedCount s new))) ex ∙ ap (λ (m : ℕ). refused m k) (sym (code-cases true ex)))
+              (takes ∙ ap (λ (q : Bool). cond q (refused 9 k) (going (withWord t b) new (a .struck + struckCount s new) (a .added + addedCount s new))) ex ∙ ap (λ (m : ℕ). refused m k) (sym (code-cases true ex)))
               bz sz
 
       module _ (w0 : w .code ≡ 0) where
@@ -242,7 +242,7 @@ module _ (n k t : ℕ) (a : Answer) (book sheet : List ℕ) where
 
         w-is : w ≡ done (length (withWord t b)) (length new) (struckCount s new) (addedCount s new)
         unfolding innerAnswer
-        w-is = h .answer ∙ answer-done (innerCode n t sheet (a .«sheet_count»)) _ _ inner-zero
+        w-is = h .answer ∙ if-done (innerCode n t sheet (a .«sheet_count»)) _ _ inner-zero
 
         book-longer : length (withWord t b) ≡ suc (a .«book_count»)
         book-longer = with-longer t b (new-word .0) ∙ ap suc b-length
@@ -277,9 +277,9 @@ module _ (n k t : ℕ) (a : Answer) (book sheet : List ℕ) where
         pub next-sums : (a .struck ≤ 1048576 * 16777216) × (a .added ≤ 1048576 * 16777216)
         next-sums = (omega (arith, sd .struck-few, books-few), omega (arith, sd .added-few, books-few))
 
-        pub next-done : (r : Answer) → r ≡ done (w .«book_count») (w .«sheet_count») (a .struck + w .struck) (a .added + w .added) → Stepped n k t a book sheet r bz sz
+        pub next-done : (r : Answer) → r ≡ done (w .«book_count») (w .«sheet_count») (a .struck + w .struck) (a .added + w .added) → WordLearned n k t a book sheet r bz sz
         next-done r er = record {
-          run = runOf-going r bz sz (ap (λ (q : Answer). q .code) er) ∙ same-run ∙ sym (from-going z ∙ takes ∙ ap (λ (q : Bool). choose q (refused 9 k) (going (withWord t b) new (a .struck + struckCount s new) (a .added + addedCount s new))) fits-now);
+          run = runOf-going r bz sz (ap (λ (q : Answer). q .code) er) ∙ same-run ∙ sym (from-going z ∙ takes ∙ ap (λ (q : Bool). cond q (refused 9 k) (going (withWord t b) new (a .struck + struckCount s new) (a .added + addedCount s new))) fits-now);
           fit = record { sound = λ p. sound-now; alone = λ p. absurd (p (ap (λ (q : Answer). q .code) er)) };
         }
           where
@@ -295,7 +295,7 @@ module _ (n k t : ℕ) (a : Answer) (book sheet : List ℕ) where
             same-run : going (take (r .«book_count») bz) (take (r .«sheet_count») sz) (r .struck) (r .added) ≡ going (withWord t b) new (a .struck + struckCount s new) (a .added + addedCount s new)
             same-run = λ q. going (hb .is q) (hs .is q) (ap (λ (u : Answer). u .struck) r-is q) (ap (λ (u : Answer). u .added) r-is q)
 
-            sound-now : Sound n r bz sz
+            sound-now : GoodTables n r bz sz
             sound-now = record {
               small = sd .small;
               books-in = hb .fits;

@@ -1,6 +1,6 @@
 -- Learn: fresh, then take for each word in turn, then the self-check; the answer and every word of both lent slices, for all inputs.
 use mathlib.Core.Path.{_≡_}
-use mathlib.Core.Bool.{Bool, true, false, not}
+use mathlib.Core.Bool.{Bool, true, false, not, cond}
 use mathlib.Core.List.{List, [], _∷_}
 use Prim.Native.Nat.{ℕ, _+_}
 use lib.Dec.{eqb, ltb}
@@ -19,23 +19,19 @@ pub data Run : Type 0 where
   going : (book sheet : List ℕ) (struck added : ℕ) → Run
   refused : (code place : ℕ) → Run
 
-abbrev pub choose : Bool → Run → Run → Run
-choose true a b = a
-choose false a b = b
-
 -- the word t, number k, is taken: book and sheet were b and s, and new is the sheet with t taken
 unfoldable pub taken : ℕ → ℕ → ℕ → List ℕ → List ℕ → ℕ → ℕ → List ℕ → Run
 taken sheetRoom k t b s struck added new =
-    choose (ltb sheetRoom (length new)) (refused 9 k) (going (withWord t b) new (struck + struckCount s new) (added + addedCount s new))
+    cond (ltb sheetRoom (length new)) (refused 9 k) (going (withWord t b) new (struck + struckCount s new) (added + addedCount s new))
 
 -- one word, by 6, 7, 8, 9; a repeat is passed over, and a refusal stands
 unfoldable pub learnStep : ℕ → ℕ → ℕ → ℕ → ℕ → Run → Run
 learnStep n bookRoom sheetRoom k t (refused c p) = refused c p
 learnStep n bookRoom sheetRoom k t (going b s x y) =
-    choose (not (validTransition n t)) (refused 6 k)
-    (choose (told t b) (going b s x y)
-    (choose (against t b) (refused 7 k)
-    (choose (ltb bookRoom (length (withWord t b))) (refused 8 k)
+    cond (not (validTransition n t)) (refused 6 k)
+    (cond (told t b) (going b s x y)
+    (cond (against t b) (refused 7 k)
+    (cond (ltb bookRoom (length (withWord t b))) (refused 8 k)
     (taken sheetRoom k t b s x y (takeSheet n s t)))))
 
 -- the code of the word t before it is taken: 6, else 1, 7, 8 or 0 as a take has it
@@ -49,7 +45,7 @@ learnWords n bookRoom sheetRoom k (t ∷ ts) r = learnWords n bookRoom sheetRoom
 
 -- fresh
 unfoldable pub learnStart : ℕ → ℕ → Run
-learnStart n sheetRoom = choose (not (panelSize n)) (refused 2 0) (choose (ltb sheetRoom n) (refused 9 0) (going [] (freshSheet n) 0 0))
+learnStart n sheetRoom = cond (not (panelSize n)) (refused 2 0) (cond (ltb sheetRoom n) (refused 9 0) (going [] (freshSheet n) 0 0))
 
 -- how many words of the book, from the front, the sheet reproduces
 unfoldable pub reproduced : ℕ → List ℕ → List ℕ → ℕ
@@ -59,7 +55,7 @@ reproduced n s (t ∷ b) = oneMoreIf (eqb (applySheet n s (state t)) (next t)) (
 -- the self-check: 10 at the first word that the sheet does not reproduce
 unfoldable pub learnEnd : ℕ → Run → Run
 learnEnd n (refused c p) = refused c p
-learnEnd n (going b s x y) = choose (ltb (reproduced n s b) (length b)) (refused 10 (reproduced n s b)) (going b s x y)
+learnEnd n (going b s x y) = cond (ltb (reproduced n s b) (length b)) (refused 10 (reproduced n s b)) (going b s x y)
 
 unfoldable pub learnRun : ℕ → ℕ → ℕ → List ℕ → Run
 learnRun n bookRoom sheetRoom ts = learnEnd n (learnWords n bookRoom sheetRoom 0 ts (learnStart n sheetRoom))

@@ -19,7 +19,7 @@ unfoldable pub runOf : Answer → List ℕ → List ℕ → Run
 runOf a book sheet = runIf (a .code) (going (take (a .«book_count») book) (take (a .«sheet_count») sheet) (a .struck) (a .added)) (a .place)
 
 -- the tables are good and inside their slices, and the sums are not large
-pub record Sound (n : ℕ) (a : Answer) (book sheet : List ℕ) : Type 0 where
+pub record GoodTables (n : ℕ) (a : Answer) (book sheet : List ℕ) : Type 0 where
   pub small : n ≤ 10
   pub books-in : a .«book_count» ≤ length book
   pub sheets-in : a .«sheet_count» ≤ length sheet
@@ -31,17 +31,17 @@ pub record Sound (n : ℕ) (a : Answer) (book sheet : List ℕ) : Type 0 where
 
 -- an answer on the way: sound while nothing was refused, and else a code and a place alone
 pub record Fit (n : ℕ) (a : Answer) (book sheet : List ℕ) : Type 0 where
-  pub sound : a .code ≡ 0 → Sound n a book sheet
+  pub sound : a .code ≡ 0 → GoodTables n a book sheet
   pub alone : (a .code ≡ 0 → ⊥) → a ≡ plain (a .code) (a .place) 0 0
 
 -- a word that nothing refuses but 9 comes after a sound answer
 pub record Next (n t : ℕ) (a : Answer) (book sheet : List ℕ) : Type 0 where
   pub done-so-far : a .code ≡ 0
-  pub sound : Sound n a book sheet
+  pub sound : GoodTables n a book sheet
   pub passes : wordCode n t (length book) (take (a .«book_count») book) ≡ 0
 
 -- one word was learned: a, book and sheet before, r, book′ and sheet′ after
-pub record Stepped (n k t : ℕ) (a : Answer) (book sheet : List ℕ) (r : Answer) (book′ sheet′ : List ℕ) : Type 0 where
+pub record WordLearned (n k t : ℕ) (a : Answer) (book sheet : List ℕ) (r : Answer) (book′ sheet′ : List ℕ) : Type 0 where
   pub run : runOf r book′ sheet′ ≡ learnStep n (length book) (length sheet) k t (runOf a book sheet)
   pub fit : Fit n r book′ sheet′
 

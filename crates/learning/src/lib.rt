@@ -10,7 +10,7 @@ ghost use Rattle.table.specs.Lists.{all};
 ghost use Rattle.panel.specs.Rules.{validRule};
 ghost use Rattle.book.specs.Books.{statesUp};
 ghost use Rattle.learning.specs.Learn.{wordCode, reproduced, Learned};
-ghost use Rattle.learning.specs.Running.{Fit, Next, Stepped, Through, Begun, Finished};
+ghost use Rattle.learning.specs.Running.{Fit, Next, WordLearned, Through, Begun, Finished};
 
 // The code of the word t before it is taken into the book: 6, 1, 7, 8 or 0.
 fn word_code(n: u32, t: u32, book: &[u32], room: usize) -> u32
@@ -35,7 +35,7 @@ fn learn_next(
     sheet: &mut [u32],
 ) -> Answer
     requires { ⌜ Next n t before (now book) (now sheet) ⌝ }
-    ensures { λ r. ⌜ Stepped n k t before (now (book .entry)) (now (sheet .entry)) r (now (book .exit)) (now (sheet .exit)) ⌝ }
+    ensures { λ r. ⌜ WordLearned n k t before (now (book .entry)) (now (sheet .entry)) r (now (book .exit)) (now (sheet .exit)) ⌝ }
 {
     let books = before.book_count;
     let sheets = before.sheet_count;
@@ -61,7 +61,7 @@ fn learn_word(
     sheet: &mut [u32],
 ) -> Answer
     requires { ⌜ Fit n before (now book) (now sheet) ⌝ }
-    ensures { λ r. ⌜ Stepped n k t before (now (book .entry)) (now (sheet .entry)) r (now (book .exit)) (now (sheet .exit)) ⌝ }
+    ensures { λ r. ⌜ WordLearned n k t before (now (book .entry)) (now (sheet .entry)) r (now (book .exit)) (now (sheet .exit)) ⌝ }
 {
     if before.code != 0 {
         return before;

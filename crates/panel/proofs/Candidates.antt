@@ -1,7 +1,7 @@
 -- One more contact: what `candidate` does to a rule.
 use mathlib.Core.Path.{_≡_, refl, sym, ap, ap₂, _∙_, subst}
 use mathlib.Core.Logic.{_⊎_, inl, inr}
-use mathlib.Core.Bool.{Bool, true, false, not, false≢true}
+use mathlib.Core.Bool.{Bool, true, false, not, false≢true, cond}
 use Prim.Native.Nat.{ℕ, _+_, _*_, _^_, _≤_, _<_}
 use native.Mathlib.Omega.{arith}
 use lib.Pow.{pow-pos}
@@ -253,12 +253,12 @@ module _ (n : ℕ) (small : n ≤ 10) where
       one-mustOff o (inl t) = absurd (apart-on (mustOff b) i u (yb .mustOff-off) t o)
       one-mustOff o (inr t) = t .0
 
-      pick : (on u i ≡ true) ⊎ (on u i ≡ true → ⊥) → u ≡ v
-      pick (inl o) = one-mustOff o (ab .mustOff-from u (within-on (mustOff C) (mustOff B) u (x .mustOff-in) (ac .mustOff-new o)))
-      pick (inr o) = one-mustOn o (ab .mustOn-from u (within-on (mustOn C) (mustOn B) u (x .mustOn-in) (ac .mustOn-new o)))
+      cond : (on u i ≡ true) ⊎ (on u i ≡ true → ⊥) → u ≡ v
+      cond (inl o) = one-mustOff o (ab .mustOff-from u (within-on (mustOff C) (mustOff B) u (x .mustOff-in) (ac .mustOff-new o)))
+      cond (inr o) = one-mustOn o (ab .mustOn-from u (within-on (mustOn C) (mustOn B) u (x .mustOn-in) (ac .mustOn-new o)))
 
       one : u ≡ v
-      one = pick (either (on u i))
+      one = cond (either (on u i))
 
       mustOn-side : (k : ℕ) → on k (mustOn c) ≡ true → (on k (mustOn b) ≡ true) ⊎ ((k ≡ v) × (on v i ≡ true → ⊥)) → on k (mustOn b) ≡ true
       mustOn-side k t (inl q) = q

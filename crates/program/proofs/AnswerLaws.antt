@@ -19,13 +19,13 @@ use Rattle.headers.specs.declared.Verdict.the-variants.{Good, Bad}
 use Rattle.headers.proofs.PlaceLaws.{bad-iff-place}
 use Rattle.recording.specs.Rows.{textWords}
 use Rattle.recording.specs.Reading.{refusal, answerFor, readAnswer, readList}
-use Rattle.learning.specs.Learn.{Run, going, refused, choose, reproduced, learnEnd, learnRun}
+use Rattle.learning.specs.Learn.{Run, going, refused, reproduced, learnEnd, learnRun}
 use Rattle.learning.specs.Running.{runIf}
 use Rattle.learning.proofs.Ways.{Opening, two, nine-at-once, opened, Way, six, passed-over, seven, eight, nine, taken-up, run-keeps}
 use Rattle.writing.specs.SheetText.{sheetText}
 use Rattle.writing.specs.Writing.{textLength}
 use Rattle.writing.proofs.TextLaws.{sheet-length}
-use Rattle.program.specs.Program.{refusalLine, ifRoom, tooLong, entryCode, entryPlace, learnedRun, writtenRun, runText, printed, Runs}
+use Rattle.program.specs.Program.{refusalLine, ifRoom, tooLong, readingCode, readingPlace, learnedRun, writtenRun, runText, printed, Runs}
 use Rattle.program.proofs.LineLaws.{decimal-most, line-length-is, room-yes}
 use Rattle.program.proofs.RunLaws.{count-within}
 
@@ -53,8 +53,8 @@ read-small t room = go (judgeOf recording t) refl
     go (Bad p) e = (omega arith, place-small t p e)
     go (Good n) e = good n (length (textWords t)) (leb (length (textWords t)) room)
 
-entry-small : (t : List ℕ) (room : ℕ) → (entryCode t room ≤ 13) × (entryPlace t room ≤ 24577)
-unfolding entryCode entryPlace
+entry-small : (t : List ℕ) (room : ℕ) → (readingCode t room ≤ 13) × (readingPlace t room ≤ 24577)
+unfolding readingCode readingPlace
 entry-small t room = go (tooLong t) refl
   where
     go : (b : Bool) → tooLong t ≡ b → (refuse b 13 (readAnswer t room .code) ≤ 13) × (refuse b 0 (readAnswer t room .place) ≤ 24577)
@@ -92,7 +92,7 @@ module _ (n bookRoom room : ℕ) where
   end-placed m k l f (refused c p) h = (h .0, omega (arith, h .1))
   end-placed m k l f (going b s x y) h = go (ltb (reproduced n s b) (length b)) refl
     where
-      go : (t : Bool) → ltb (reproduced n s b) (length b) ≡ t → Placed m bookRoom (choose t (refused 10 (reproduced n s b)) (going b s x y))
+      go : (t : Bool) → ltb (reproduced n s b) (length b) ≡ t → Placed m bookRoom (cond t (refused 10 (reproduced n s b)) (going b s x y))
       go true e = (omega arith, omega (arith, h, ltb-true (reproduced n s b) (length b) e))
       go false e = h
 
@@ -114,7 +114,7 @@ unfolding runText writtenRun textLength
 text-some n bookRoom room l (refused c p) h = line-some c p room (h .0) (h .1) l
 text-some n bookRoom room l (going b s x y) h = go (ltb room (length (sheetText n s))) refl
   where
-    go : (t : Bool) → ltb room (length (sheetText n s)) ≡ t → 0 < length (ifRoom room (runText n (choose t (refused 12 0) (going b s x y))))
+    go : (t : Bool) → ltb room (length (sheetText n s)) ≡ t → 0 < length (ifRoom room (runText n (cond t (refused 12 0) (going b s x y))))
     go true e = line-some 12 0 room (omega arith) (omega arith) l
     go false e = omega (arith, ap length (room-yes room (sheetText n s) (ltb-false room _ e)), sheet-length n s)
 
@@ -133,5 +133,5 @@ run-answers {t = t} {list = list} {book = book} {sheet = sheet} {out = out} q h 
     let few : length ts ≤ 24577 = omega (arith, length-take (readAnswer t (length list) .count) (readList t (length list)), count-within t (length list)) in
     let e = entry-small t (length list) in
     let w = learn-placed n (length book) (length sheet) 24577 ts few (omega arith) in
-    rw (q .long) (entry-some n (length out) (entryCode t (length list)) (entryPlace t (length list)) _ (e .0) (e .1) l
+    rw (q .long) (entry-some n (length out) (readingCode t (length list)) (readingPlace t (length list)) _ (e .0) (e .1) l
     (text-some n (length book) (length out) l (learnRun n (length book) (length sheet) ts) w))

@@ -22,7 +22,7 @@ use Rattle.table.specs.Lists.{has, missing}
 use Rattle.table.specs.Surgery.{filled}
 use Rattle.writing.specs.TableText.{bodyByte, headByte, columns, rowText, rowsText, headerText, typeText, countText, tableText}
 use Rattle.writing.specs.SheetText.{sheetText}
-use Rattle.program.specs.Program.{refusalLine, ifRoom, entryCode, entryPlace, learnedRun, writtenRun, runText, printed}
+use Rattle.program.specs.Program.{refusalLine, ifRoom, readingCode, readingPlace, learnedRun, writtenRun, runText, printed}
 
 -- .i 3⏎.o 3⏎.type fr⏎111 110⏎110 100⏎100 000⏎000 001⏎001 001⏎011 101⏎101 010⏎010 101⏎.e⏎
 abbrev panel : List ℕ
@@ -34,10 +34,10 @@ sheet = 46 ∷ 105 ∷ 32 ∷ 51 ∷ 10 ∷ 46 ∷ 111 ∷ 32 ∷ 51 ∷ 10 ∷ 
 
 -- 8 words, 8 book words, 7 rules on the way, 50 bytes
 pub panel-printed : printed panel 8 8 7 50 ≡ sheet
-unfolding filled on relays allOn allOff transitionWord markOf run same linesOf body cubeOf digits numberOf fieldsFrom fieldsIn keyOf typedOf rowLine classOf ofFields lineOf lacks lacksNone readyOf rowFits openOf fitsOf headerAllowed endAllowed rowAllowed allowedAt nextAt finishOf judgeLines judgeOf matchesOf wordsBelow linesWords textWords readAnswer readList learnRun learnStart learnWords learnStep taken learnEnd reproduced has missing panelSize bitsWhere ruleWord head mustOn mustOff covers contains narrows rules state next observed validTransition rests spared differ told against withWord least sheetWhere permits freshSheet takeSheet struckCount addedCount pullsIn applySheet decimalFrom decimal bodyByte headByte columns rowText rowsText headerText typeText countText tableText sheetText refusalLine ifRoom entryCode entryPlace learnedRun writtenRun runText printed
+unfolding filled on relays allOn allOff transitionWord markOf run same linesOf body cubeOf digits numberOf fieldsFrom fieldsIn keyOf typedOf rowLine classOf ofFields lineOf lacks lacksNone readyOf rowFits openOf fitsOf headerAllowed endAllowed rowAllowed allowedAt nextAt finishOf judgeLines judgeOf matchesOf wordsBelow linesWords textWords readAnswer readList learnRun learnStart learnWords learnStep taken learnEnd reproduced has missing panelSize bitsWhere ruleWord head mustOn mustOff covers contains narrows rules state next observed validTransition rests spared differ told against withWord least sheetWhere permits freshSheet takeSheet struckCount addedCount pullsIn applySheet decimalFrom decimal bodyByte headByte columns rowText rowsText headerText typeText countText tableText sheetText refusalLine ifRoom readingCode readingPlace learnedRun writtenRun runText printed
 panel-printed = refl
 
 -- `refused 8 at 0` for a list of 7 words, `refused 12 at 0` for 49 bytes, and nothing at all for 15, one less than that line has
 pub panel-refused : (printed panel 7 8 7 50 ≡ 114 ∷ 101 ∷ 102 ∷ 117 ∷ 115 ∷ 101 ∷ 100 ∷ 32 ∷ 56 ∷ 32 ∷ 97 ∷ 116 ∷ 32 ∷ 48 ∷ 10 ∷ []) × (printed panel 8 8 7 49 ≡ 114 ∷ 101 ∷ 102 ∷ 117 ∷ 115 ∷ 101 ∷ 100 ∷ 32 ∷ 49 ∷ 50 ∷ 32 ∷ 97 ∷ 116 ∷ 32 ∷ 48 ∷ 10 ∷ []) × (printed panel 8 8 7 15 ≡ [])
-unfolding filled on relays allOn allOff transitionWord markOf run same linesOf body cubeOf digits numberOf fieldsFrom fieldsIn keyOf typedOf rowLine classOf ofFields lineOf lacks lacksNone readyOf rowFits openOf fitsOf headerAllowed endAllowed rowAllowed allowedAt nextAt finishOf judgeLines judgeOf matchesOf wordsBelow linesWords textWords readAnswer readList learnRun learnStart learnWords learnStep taken learnEnd reproduced has missing panelSize bitsWhere ruleWord head mustOn mustOff covers contains narrows rules state next observed validTransition rests spared differ told against withWord least sheetWhere permits freshSheet takeSheet struckCount addedCount pullsIn applySheet decimalFrom decimal bodyByte headByte columns rowText rowsText headerText typeText countText tableText sheetText refusalLine ifRoom entryCode entryPlace learnedRun writtenRun runText printed
+unfolding filled on relays allOn allOff transitionWord markOf run same linesOf body cubeOf digits numberOf fieldsFrom fieldsIn keyOf typedOf rowLine classOf ofFields lineOf lacks lacksNone readyOf rowFits openOf fitsOf headerAllowed endAllowed rowAllowed allowedAt nextAt finishOf judgeLines judgeOf matchesOf wordsBelow linesWords textWords readAnswer readList learnRun learnStart learnWords learnStep taken learnEnd reproduced has missing panelSize bitsWhere ruleWord head mustOn mustOff covers contains narrows rules state next observed validTransition rests spared differ told against withWord least sheetWhere permits freshSheet takeSheet struckCount addedCount pullsIn applySheet decimalFrom decimal bodyByte headByte columns rowText rowsText headerText typeText countText tableText sheetText refusalLine ifRoom readingCode readingPlace learnedRun writtenRun runText printed
 panel-refused = (refl, refl, refl)

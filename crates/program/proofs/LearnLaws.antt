@@ -2,7 +2,7 @@
 use Prim.Native.Nat.{ℕ, _≤_, _<_}
 use mathlib.Core.Path.{_≡_}
 use mathlib.Core.List.{List}
-use mathlib.Core.Bool.{Bool, true, false}
+use mathlib.Core.Bool.{Bool, true, false, cond}
 use native.Mathlib.Omega.{arith}
 use lib.Dec.{ltb}
 use lib.ListN.{length}
@@ -12,7 +12,7 @@ use Rattle.prime.proofs.Least.{good-i}
 use Rattle.prime.proofs.Laws.{take-good}
 use Rattle.sheet.proofs.Fresh.{fresh-length}
 use Rattle.writing.proofs.WriteLaws.{size-small}
-use Rattle.learning.specs.Learn.{Run, going, refused, choose, reproduced, learnEnd, learnRun}
+use Rattle.learning.specs.Learn.{Run, going, refused, reproduced, learnEnd, learnRun}
 use Rattle.learning.proofs.Lists.{fresh-good}
 use Rattle.learning.proofs.Ways.{Opening, two, nine-at-once, opened, Way, six, passed-over, seven, eight, nine, taken-up, run-keeps}
 
@@ -40,7 +40,7 @@ module _ (n room : ℕ) where
   end-writable (refused c p) h = h
   end-writable (going b s x y) h = go (ltb (reproduced n s b) (length b))
     where
-      go : (t : Bool) → Writable n room (choose t (refused 10 (reproduced n s b)) (going b s x y))
+      go : (t : Bool) → Writable n room (cond t (refused 10 (reproduced n s b)) (going b s x y))
       go true = omega arith
       go false = h
 

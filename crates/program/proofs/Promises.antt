@@ -15,7 +15,7 @@ use Rattle.writing.specs.SheetText.{sheetText}
 use Rattle.writing.specs.Writing.{written, countLength, textLength}
 use Rattle.writing.proofs.TextLaws.{sheet-length}
 use Rattle.writing.proofs.WriteLaws.{size-small}
-use Rattle.program.specs.Program.{ifRoom, entryCode, entryPlace, learnedRun, writtenRun, runText, printed, Runs}
+use Rattle.program.specs.Program.{ifRoom, readingCode, readingPlace, learnedRun, writtenRun, runText, printed, Runs}
 use Rattle.program.proofs.LineLaws.{decimal-most, room-yes}
 use Rattle.program.proofs.LearnLaws.{Writable, learn-writable}
 
@@ -62,7 +62,7 @@ never-12 n sheetRoom room h k (going b s x y) w =
 
 -- read and learned, the sheet is what is printed, and in the program's rooms it is printed whole
 pub run-done : {t list book sheet out l b s o : List ℕ} {r : ℕ} → Runs t list book sheet out l b s o r
-    → length sheet ≤ 1024 → 24576 ≤ length out → entryCode t (length list) ≡ 0
+    → length sheet ≤ 1024 → 24576 ≤ length out → readingCode t (length list) ≡ 0
     → (book₁ sheet₁ : List ℕ) (x y : ℕ) → learnedRun t (length list) (length book) (length sheet) ≡ going book₁ sheet₁ x y
     → (r ≡ length (sheetText (readAnswer t (length list) .n) sheet₁)) × (o ≡ written out 0 (sheetText (readAnswer t (length list) .n) sheet₁))
 unfolding printed learnedRun runText
@@ -70,7 +70,7 @@ run-done {t = t} {list = list} {book = book} {sheet = sheet} {out = out} q h k e
     let n = readAnswer t (length list) .n in
     let w : Writable n (length sheet) (going book₁ sheet₁ x y) = subst (Writable n (length sheet)) g (learn-writable n (length sheet) (length book) (take (readAnswer t (length list) .count) (readList t (length list)))) in
     let z : printed t (length list) (length book) (length sheet) (length out) ≡ sheetText n sheet₁ =
-    ap (λ (c : ℕ). ifRoom (length out) (runText n (runIf c (writtenRun n (length out) (learnedRun t (length list) (length book) (length sheet))) (entryPlace t (length list))))) e
+    ap (λ (c : ℕ). ifRoom (length out) (runText n (runIf c (writtenRun n (length out) (learnedRun t (length list) (length book) (length sheet))) (readingPlace t (length list))))) e
     ∙ ap (λ (p : Run). ifRoom (length out) (runText n (writtenRun n (length out) p))) g
     ∙ ap (λ (p : Run). ifRoom (length out) (runText n p)) (never-12 n (length sheet) (length out) h k (going book₁ sheet₁ x y) w)
     ∙ room-yes (length out) (sheetText n sheet₁) (omega (arith, short-text n sheet₁ (size-small n (w .0)) (omega (arith, w .2)))) in

@@ -10,7 +10,6 @@ use lib.Seq.{take-at}
 use borrow.Author.Tests.{le-ltb, lt-ltb, leb-true, ltb-false}
 use Rattle.table.specs.Surgery.{filled}
 use Rattle.answers.specs.Answers.{refuse}
-use Rattle.answers.proofs.Laws.{words-refused}
 use Rattle.answers.specs.declared.Answer.{Answer}
 use Rattle.headers.specs.Layouts.{recording}
 use Rattle.headers.specs.Verdicts.{judgeOf}
@@ -19,14 +18,15 @@ use Rattle.headers.specs.declared.Verdict.the-variants.{Good, Bad}
 use Rattle.recording.specs.Rows.{textWords}
 use Rattle.recording.specs.Reading.{refusal, answerFor, readAnswer, readList, Reads}
 use Rattle.recording.specs.declared.ReadAnswer.{ReadAnswer}
-use Rattle.learning.specs.Learn.{Run, going, refused, choose, learnRun, runAnswer, runSheet, Learned}
+use Rattle.learning.specs.Learn.{Run, going, refused, learnRun, runAnswer, runSheet, Learned}
 use Rattle.learning.specs.Running.{runIf}
 use Rattle.writing.specs.SheetText.{sheetText}
 use Rattle.writing.specs.Writing.{written, Put, writeCode, Writes}
 use Rattle.writing.specs.declared.WriteAnswer.{WriteAnswer}
-use Rattle.program.specs.Program.{refusalLine, ifRoom, tooLong, entryCode, entryPlace, learnedRun, writtenRun, runText, printed, Runs, Sheets}
+use Rattle.program.specs.Program.{refusalLine, ifRoom, tooLong, readingCode, readingPlace, learnedRun, writtenRun, runText, printed, Runs, Sheets}
 use Rattle.program.proofs.LineLaws.{room-yes}
 use Rattle.program.proofs.LearnLaws.{Writable, learn-writable}
+use Rattle.answers.proofs.Laws.{if-refused}
 
 -- a code that is not 0
 run-refused : (c : ℕ) (r : Run) (p : ℕ) → (c ≡ 0 → ⊥) → runIf c r p ≡ refused c p
@@ -56,7 +56,7 @@ module _ (n sheetRoom room : ℕ) where
   unwritten-text (refused c p) h e code q f = absurd (omega (arith, h, e))
   unwritten-text (going b s x y) h e code q f = go (ltb room (length (sheetText n s))) (q ∙ write-code-is b s x y h)
     where
-      go : (t : Bool) → code ≡ refuse t 12 0 → runText n (choose t (refused 12 0) (going b s x y)) ≡ refusalLine code 0
+      go : (t : Bool) → code ≡ refuse t 12 0 → runText n (cond t (refused 12 0) (going b s x y)) ≡ refusalLine code 0
       go true z = ap (λ (k : ℕ). refusalLine k 0) (sym z)
       go false z = absurd (f z)
 
@@ -67,7 +67,7 @@ module _ (n sheetRoom room : ℕ) where
   written-text (going b s x y) h e code q f = go (ltb room (length (sheetText n s))) refl (q ∙ write-code-is b s x y h)
     where
       go : (t : Bool) → ltb room (length (sheetText n s)) ≡ t → code ≡ refuse t 12 0
-          → ifRoom room (runText n (choose t (refused 12 0) (going b s x y))) ≡ sheetText n (take (length s) (filled sheetRoom s))
+          → ifRoom room (runText n (cond t (refused 12 0) (going b s x y))) ≡ sheetText n (take (length s) (filled sheetRoom s))
       go true i z = absurd (omega (arith, z, f))
       go false i z = room-yes room (sheetText n s) (ltb-false room _ i) ∙ ap (sheetText n) (sym (take-at s _ (length s) refl))
 
@@ -102,7 +102,7 @@ module _ (n : ℕ) (ts book sheet out book′ sheet′ : List ℕ) (a : Answer) 
         → Sheets n ts book sheet out book′ sheet′ out₂ r
     written-refused f out₂ r p =
         let wc : w .answer .code ≡ code = ap (λ (x : WriteAnswer). x .answer .code) (h .answer) in
-        let same : out₁ ≡ out = h .bytes ∙ words-refused code _ _ (λ z. f (wc ∙ z)) in
+        let same : out₁ ≡ out = h .bytes ∙ if-refused code _ _ (λ z. f (wc ∙ z)) in
         as-sheets _ out₂ r (ap (ifRoom (length out)) (unwritten-text n (length sheet) (length out) run (learn-writable n (length sheet) (length book) ts) done-is code code-is (λ z. f (wc ∙ z))))
         (rw (← wc, ← same) p)
 
@@ -139,7 +139,7 @@ read-count t before after a h = rw (h .answer) (count-within t (length before))
 
 module _ (t list book sheet out : List ℕ) where
   pub run-too-long : 24576 < length t → (out′ : List ℕ) (r : ℕ) → Put out 0 (ifRoom (length out) (refusalLine 13 0)) out′ r → Runs t list book sheet out list book sheet out′ r
-  unfolding entryCode entryPlace printed runText
+  unfolding readingCode readingPlace printed runText
   run-too-long h out′ r p =
       let y = lt-ltb 24576 (length t) h in
       record {
@@ -154,12 +154,12 @@ module _ (t list book sheet out : List ℕ) where
     short : tooLong t ≡ false
     short = le-ltb 24576 (length t) h
 
-    code-read : entryCode t (length list) ≡ a .code
-    unfolding entryCode
+    code-read : readingCode t (length list) ≡ a .code
+    unfolding readingCode
     code-read = rw (short, k .answer)
 
-    place-read : entryPlace t (length list) ≡ a .place
-    unfolding entryPlace
+    place-read : readingPlace t (length list) ≡ a .place
+    unfolding readingPlace
     place-read = rw (short, k .answer)
 
     list-read : list′ ≡ cond (tooLong t) list (readList t (length list))
@@ -178,15 +178,15 @@ module _ (t list book sheet out : List ℕ) where
           long = p .behind ∙ omega (arith, ap length e);
           bytes = p .bytes ∙ ap (written out 0) (sym e);
           list-words = list-read;
-          book-words = rw code-read (sym (words-refused (a .code) _ book f));
-          sheet-words = rw code-read (sym (words-refused (a .code) _ sheet f));
+          book-words = rw code-read (sym (if-refused (a .code) _ book f));
+          sheet-words = rw code-read (sym (if-refused (a .code) _ sheet f));
         }
 
     pub run-learned : a .code ≡ 0 → (book′ sheet′ out′ : List ℕ) (r : ℕ) → Sheets (a .n) (take (a .count) list′) book sheet out book′ sheet′ out′ r
         → Runs t list book sheet out list′ book′ sheet′ out′ r
     unfolding printed learnedRun
     run-learned z book′ sheet′ out′ r s =
-        let e : entryCode t (length list) ≡ 0 = code-read ∙ z in
+        let e : readingCode t (length list) ≡ 0 = code-read ∙ z in
         record {
           long = rw (e, ← k .answer, ← k .list) (s .long);
           bytes = rw (e, ← k .answer, ← k .list) (s .bytes);

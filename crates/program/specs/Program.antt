@@ -5,10 +5,10 @@ use mathlib.Core.List.{List, [], _∷_, _++_}
 use mathlib.Core.Bool.{Bool, cond}
 use lib.Dec.{leb, ltb}
 use lib.ListN.{length, take}
-use Rattle.answers.specs.Answers.{refuse, wordsIf}
+use Rattle.answers.specs.Answers.{refuse, ifDone}
 use Rattle.fields.specs.Decimals.{decimal}
 use Rattle.recording.specs.Reading.{readAnswer, readList}
-use Rattle.learning.specs.Learn.{Run, going, refused, choose, learnRun, runBook, runSheet}
+use Rattle.learning.specs.Learn.{Run, going, refused, learnRun, runBook, runSheet}
 use Rattle.learning.specs.Running.{runIf}
 use Rattle.writing.specs.TableText.{headerText}
 use Rattle.writing.specs.SheetText.{sheetText}
@@ -27,12 +27,12 @@ abbrev pub tooLong : List ℕ → Bool
 tooLong t = ltb 24576 (length t)
 
 -- the code before learning: 13 is checked first, and then reading answers
-unfoldable pub entryCode : List ℕ → ℕ → ℕ
-entryCode t listRoom = refuse (tooLong t) 13 (readAnswer t listRoom .code)
+unfoldable pub readingCode : List ℕ → ℕ → ℕ
+readingCode t listRoom = refuse (tooLong t) 13 (readAnswer t listRoom .code)
 
 -- its place: 0 for 13, else that of reading
-unfoldable pub entryPlace : List ℕ → ℕ → ℕ
-entryPlace t listRoom = refuse (tooLong t) 0 (readAnswer t listRoom .place)
+unfoldable pub readingPlace : List ℕ → ℕ → ℕ
+readingPlace t listRoom = refuse (tooLong t) 0 (readAnswer t listRoom .place)
 
 -- learning what was read: the first `count` words of the list
 unfoldable pub learnedRun : List ℕ → ℕ → ℕ → ℕ → Run
@@ -42,7 +42,7 @@ learnedRun t listRoom bookRoom sheetRoom =
 -- writing what was learned: 12 where the sheet's text is longer than its room
 unfoldable pub writtenRun : ℕ → ℕ → Run → Run
 writtenRun n room (refused c p) = refused c p
-writtenRun n room (going b s x y) = choose (ltb room (length (sheetText n s))) (refused 12 0) (going b s x y)
+writtenRun n room (going b s x y) = cond (ltb room (length (sheetText n s))) (refused 12 0) (going b s x y)
 
 -- the sheet as text, or the line of the refusal
 unfoldable pub runText : ℕ → Run → List ℕ
@@ -53,15 +53,15 @@ runText n (refused c p) = refusalLine c p
 unfoldable pub printed : List ℕ → ℕ → ℕ → ℕ → ℕ → List ℕ
 printed t listRoom bookRoom sheetRoom room =
     ifRoom room (runText (readAnswer t listRoom .n)
-    (runIf (entryCode t listRoom) (writtenRun (readAnswer t listRoom .n) room (learnedRun t listRoom bookRoom sheetRoom)) (entryPlace t listRoom)))
+    (runIf (readingCode t listRoom) (writtenRun (readAnswer t listRoom .n) room (learnedRun t listRoom bookRoom sheetRoom)) (readingPlace t listRoom)))
 
 -- what `run` ensures: the length and all bytes of the output, and every word of the list, the book and the sheet
 pub record Runs (t list book sheet out list′ book′ sheet′ out′ : List ℕ) (r : ℕ) : Type 0 where
   pub long : r ≡ length (printed t (length list) (length book) (length sheet) (length out))
   pub bytes : out′ ≡ written out 0 (printed t (length list) (length book) (length sheet) (length out))
   pub list-words : list′ ≡ cond (tooLong t) list (readList t (length list))
-  pub book-words : book′ ≡ wordsIf (entryCode t (length list)) (runBook (length book) (learnedRun t (length list) (length book) (length sheet))) book
-  pub sheet-words : sheet′ ≡ wordsIf (entryCode t (length list)) (runSheet (length sheet) (learnedRun t (length list) (length book) (length sheet))) sheet
+  pub book-words : book′ ≡ ifDone (readingCode t (length list)) (runBook (length book) (learnedRun t (length list) (length book) (length sheet))) book
+  pub sheet-words : sheet′ ≡ ifDone (readingCode t (length list)) (runSheet (length sheet) (learnedRun t (length list) (length book) (length sheet))) sheet
 
 -- what learning and writing alone leave: the words ts learned for n relays
 pub record Sheets (n : ℕ) (ts book sheet out book′ sheet′ out′ : List ℕ) (r : ℕ) : Type 0 where

@@ -12,7 +12,7 @@ use Rattle.panel.specs.Transitions.{transitionWord, state, next, validTransitio
 use Rattle.prime.specs.Sheets.{consistent, least, sheetWhere, sheetOf}
 use Rattle.book.specs.Books.{differ, against}
 use Rattle.book.proofs.Telling.{one-next-i}
-use Rattle.answers.specs.Answers.{wordsIf}
+use Rattle.answers.specs.Answers.{ifDone}
 use Rattle.fields.specs.Bytes.{markOf, run, same}
 use Rattle.fields.specs.Texts.{linesOf, body}
 use Rattle.fields.specs.Values.{cubeOf, digits, numberOf}
@@ -30,7 +30,7 @@ use Rattle.recording.specs.Rows.{matchesOf, wordsBelow, linesWords, textWords}
 use Rattle.recording.specs.Reading.{readList}
 use Rattle.learning.specs.Learn.{runBook, runSheet}
 use Rattle.writing.specs.Writing.{written}
-use Rattle.program.specs.Program.{tooLong, entryCode, learnedRun, printed, Runs}
+use Rattle.program.specs.Program.{tooLong, readingCode, learnedRun, printed, Runs}
 use Rattle.handover.specs.Learning.{Learnable, contradicted as stopped, LearnRefused, at-word}
 use Rattle.promises.specs.Printed.{Recorded, SameRows, Refused, too-long, faulty, too-many, contradicted, SheetPrinted, RefusalPrinted, Rooms}
 use Rattle.promises.proofs.Learning.{words-learnable}
@@ -164,8 +164,8 @@ answer t = printed t (length words) (length words) (length words) (length output
 
 -- a run: what the contract says, word for word
 runs : (t : List ℕ) → Runs t words words words output (cond (tooLong t) words (readList t (length words)))
-    (wordsIf (entryCode t (length words)) (runBook (length words) (learnedRun t (length words) (length words) (length words))) words)
-    (wordsIf (entryCode t (length words)) (runSheet (length words) (learnedRun t (length words) (length words) (length words))) words)
+    (ifDone (readingCode t (length words)) (runBook (length words) (learnedRun t (length words) (length words) (length words))) words)
+    (ifDone (readingCode t (length words)) (runSheet (length words) (learnedRun t (length words) (length words) (length words))) words)
     (written output 0 (answer t)) (length (answer t))
 runs t = record { long = refl; bytes = refl; list-words = refl; book-words = refl; sheet-words = refl }
 

@@ -13,11 +13,11 @@ use Rattle.panel.specs.Transitions.{transitionWord}
 use Rattle.prime.specs.Sheets.{goodSheet, freshSheet, takeSheet, struckCount, addedCount}
 use Rattle.book.specs.Books.{goodBook, told, against, withWord, clash}
 use Rattle.sheet.proofs.Fresh.{fresh-length}
-use Rattle.answers.specs.Answers.{refuse, plain, done, answerIf}
+use Rattle.answers.specs.Answers.{refuse, plain, done, ifDone}
 use Rattle.answers.specs.declared.Answer.{Answer}
 use Rattle.answers.proofs.Laws.{refuse-first, refuse-after}
 use Rattle.calls.specs.Fresh.{freshCode, freshAnswer, Fresh}
-use Rattle.calls.specs.Take.{lentCode, bookingCode, entryCode, innerCode, takeCode, takeAnswer, Taken}
+use Rattle.calls.specs.Take.{givenCode, bookingCode, entryCode, innerCode, takeCode, takeAnswer, Taken}
 use Rattle.learning.specs.Learn.{Learned}
 use Rattle.joining.specs.Joining.{Piece, bookIn, sheetIn, joinedBook, joinedSheet, exceeds, piecesCode, joinCode, joinAnswer, Joined, GoodPieces}
 use Rattle.joining.proofs.Judging.{pieces-e, pieces-i, pieces-refused}
@@ -75,7 +75,7 @@ not-no true e = refl
 not-no false e = sym e
 
 -- the code of an answer that a code picks
-picked : (c : ℕ) (a : Answer) (p b s : ℕ) → a .code ≡ 0 → (answerIf c a (plain c p b s)) .code ≡ c
+picked : (c : ℕ) (a : Answer) (p b s : ℕ) → a .code ≡ 0 → (ifDone c a (plain c p b s)) .code ≡ c
 picked zero a p b s e = e
 picked (suc c) a p b s e = refl
 
@@ -114,14 +114,14 @@ module _ (spoilt : Bool) (n : ℕ) (book : List ℕ) (books : ℕ) (sheet : List
   b = take books book
 
   abbrev lent : ℕ
-  lent = lentCode spoilt n book books sheet sheets i j
+  lent = givenCode spoilt n book books sheet sheets i j
 
   abbrev entry : ℕ
   entry = entryCode spoilt n book books sheet sheets i j
 
   -- 2 to 6 are asked first
   lent-most : lent ≤ 6
-  unfolding lentCode
+  unfolding givenCode
   lent-most =
       go (not (panelSize n)) (spoilt || (ltb (length book) books || ltb (length sheet) sheets)) (not (goodBook n b)) (not (goodSheet n (take sheets sheet))) (not (ltb i (2 ^ n) && ltb j (2 ^ n)))
     where

@@ -26,11 +26,11 @@ use Rattle.learning.specs.Learn.{Run, going, refused, learnRun, runAnswer, runB
 use Rattle.learning.specs.Running.{runIf}
 use Rattle.writing.specs.SheetText.{sheetText}
 use Rattle.writing.specs.Writing.{written}
-use Rattle.program.specs.Program.{refusalLine, ifRoom, tooLong, entryCode, entryPlace, learnedRun, runText, printed, Runs}
+use Rattle.program.specs.Program.{refusalLine, ifRoom, tooLong, readingCode, readingPlace, learnedRun, runText, printed, Runs}
 use Rattle.program.proofs.LearnLaws.{learn-writable}
 use Rattle.program.proofs.Promises.{never-12}
 use Rattle.program.proofs.AnswerLaws.{run-answers}
-use Rattle.handover.specs.Demands.{Outcome, lent, sheetUsed, Complete}
+use Rattle.handover.specs.Demands.{Left, pieceOf, sheetUsed, Complete}
 use Rattle.handover.proofs.Demands.{learn-complete}
 use Rattle.handover.specs.Learning.{Learnable, LearnRefused}
 use Rattle.handover.proofs.Learning.{run-learnable, run-refused}
@@ -61,10 +61,10 @@ prints-of out out′ s r e f =
 
 -- what learning left is the sheet of the words
 module _ (n : ℕ) (ts b s : List ℕ) (x y : ℕ) (e : learnRun n 1024 1024 ts ≡ going b s x y) where
-  abbrev left : Outcome
+  abbrev left : Left
   left = record { book = filled 1024 b; sheet = filled 1024 s; answer = done (length b) (length s) x y }
 
-  left-complete : Complete n ts (lent left)
+  left-complete : Complete n ts (pieceOf left)
   unfolding runAnswer runBook runSheet
   left-complete =
       learn-complete n ts left (record {
@@ -106,8 +106,8 @@ module _ (t : List ℕ) where
           let q = run-refused n 1024 1024 e in
           refused-says n c p as-read q (learn-ended n (read-size t n f) (textWords t) (read-valid t n f) k q)
 
-  run-says : Says t (readAnswer t 1024 .n) (runIf (entryCode t 1024) (learnedRun t 1024 1024 1024) (entryPlace t 1024))
-  unfolding entryCode entryPlace learnedRun readAnswer readList filled
+  run-says : Says t (readAnswer t 1024 .n) (runIf (readingCode t 1024) (learnedRun t 1024 1024 1024) (readingPlace t 1024))
+  unfolding readingCode readingPlace learnedRun readAnswer readList filled
   run-says = go (tooLong t) (judgeOf recording t) refl refl
     where
       fit : (n : ℕ) → length t ≤ 24576 → Accepted recording n t → (c : Bool) → leb (length (textWords t)) 1024 ≡ c
@@ -132,11 +132,11 @@ module _ (t : List ℕ) where
 
   -- 12 is never given, and what is printed fits
   text-is : (room : ℕ) → 24576 ≤ room → 0 < length (printed t 1024 1024 1024 room)
-      → printed t 1024 1024 1024 room ≡ runText (readAnswer t 1024 .n) (runIf (entryCode t 1024) (learnedRun t 1024 1024 1024) (entryPlace t 1024))
+      → printed t 1024 1024 1024 room ≡ runText (readAnswer t 1024 .n) (runIf (readingCode t 1024) (learnedRun t 1024 1024 1024) (readingPlace t 1024))
   unfolding printed learnedRun
   text-is room h q =
       room-some room _ q
-      ∙ ap (λ (z : Run). runText (readAnswer t 1024 .n) (runIf (entryCode t 1024) z (entryPlace t 1024)))
+      ∙ ap (λ (z : Run). runText (readAnswer t 1024 .n) (runIf (readingCode t 1024) z (readingPlace t 1024)))
       (never-12 (readAnswer t 1024 .n) 1024 room (omega arith) h (learnedRun t 1024 1024 1024) (learn-writable (readAnswer t 1024 .n) 1024 1024 (take (readAnswer t 1024 .count) (readList t 1024))))
 
 -- ---- the theorem

@@ -10,7 +10,7 @@ use Rattle.panel.specs.Transitions.{transitionWord}
 use Rattle.prime.specs.Sheets.{goodSheet, freshSheet, takeSheet, sheetOf}
 use Rattle.book.specs.Books.{told, against, withWord, bookOf, clash}
 use Rattle.answers.specs.declared.Answer.{Answer}
-use Rattle.calls.specs.Take.{lentCode, entryCode}
+use Rattle.calls.specs.Take.{givenCode, entryCode}
 use Rattle.joining.specs.Joining.{Piece, bookIn, joinedBook, joinedSheet, GoodPieces}
 use Rattle.sessions.specs.declared.Session.{Session}
 use Rattle.sessions.specs.Sessions.{totalsFit}
@@ -35,7 +35,7 @@ FreshNine n sheet r = (r .code ≡ 9) ↔ ((panelSize n ≡ true) × (length she
 -- 8: none of 2 to 6 applies, nor 1 or 7, and the book with the transition needs more words than its slice
 abbrev pub TakeEight : Bool → ℕ → List ℕ → ℕ → List ℕ → ℕ → ℕ → ℕ → Answer → Type 0
 TakeEight spoilt n book books sheet sheets i j r =
-    (r .code ≡ 8) ↔ ((lentCode spoilt n book books sheet sheets i j ≡ 0) × (told (transitionWord i j) (take books book) ≡ false)
+    (r .code ≡ 8) ↔ ((givenCode spoilt n book books sheet sheets i j ≡ 0) × (told (transitionWord i j) (take books book) ≡ false)
     × (against (transitionWord i j) (take books book) ≡ false) × (length book < length (withWord (transitionWord i j) (take books book))))
 
 -- 9: none of 1 to 8 applies, and the sheet with the transition taken has more rules than its slice

@@ -5,24 +5,18 @@ use mathlib.Core.List.{List}
 use Prim.Native.Nat.{ℕ, zero, suc}
 use native.Mathlib.Omega.{arith}
 use lib.ListN.{length}
-use Rattle.answers.specs.Answers.{plain, answerIf}
+use Rattle.answers.specs.Answers.{plain, ifDone}
 use Rattle.answers.specs.declared.Answer.{Answer}
 use Rattle.calls.specs.Fresh.{freshCode, freshAnswer, Fresh}
 use Rattle.calls.specs.Take.{Taken}
 use Rattle.sessions.specs.declared.Session.{Session}
 use Rattle.sessions.specs.declared.Outcome.{Outcome}
-use Rattle.sessions.specs.Sessions.{sessionIf, noSession, freshSession, startSession, Starts, totalsFit, counted, sessionAfter, Summable, sessionAnswer, sessionTaken, sessionBook, sessionWords, Takes}
+use Rattle.sessions.specs.Sessions.{noSession, freshSession, startSession, Starts, totalsFit, counted, sessionAfter, Summable, sessionAnswer, sessionTaken, sessionBook, sessionWords, Takes}
 use Rattle.sessions.proofs.Totals.{fit-struck, fit-added}
 use Rattle.sessions.proofs.Taking.{totals-fitted, few-struck, few-added}
+use Rattle.answers.proofs.Laws.{if-refused, if-done}
 
 -- ---- what a code picks
-
-session-refused : (c : ℕ) (s t : Session) → (c ≡ 0 → ⊥) → sessionIf c s t ≡ t
-session-refused zero s t f = absurd (f refl)
-session-refused (suc c) s t f = refl
-
-session-done : (c : ℕ) (s t : Session) → c ≡ 0 → sessionIf c s t ≡ s
-session-done c s t e = ap (λ (k : ℕ). sessionIf k s t) e
 
 -- ---- start
 
@@ -31,7 +25,7 @@ module _ (n : ℕ) (sheet sheet′ : List ℕ) (a : Answer) (h : Fresh n sheet s
   unfolding freshAnswer
   code-is = ap (λ (x : Answer). x .code) (h .answer) ∙ picked (freshCode n (length sheet))
     where
-      picked : (c : ℕ) → answerIf c (plain 0 0 0 n) (plain c 0 0 0) .code ≡ c
+      picked : (c : ℕ) → ifDone c (plain 0 0 0 n) (plain c 0 0 0) .code ≡ c
       picked zero = refl
       picked (suc c) = refl
 
@@ -39,7 +33,7 @@ module _ (n : ℕ) (sheet sheet′ : List ℕ) (a : Answer) (h : Fresh n sheet s
   unfolding startSession
   start-refused f = record {
     answer = h .answer;
-    session = sym (session-refused (freshCode n (length sheet)) (freshSession n) noSession (λ e. f (code-is ∙ e)));
+    session = sym (if-refused (freshCode n (length sheet)) (freshSession n) noSession (λ e. f (code-is ∙ e)));
     words = h .words;
   }
 
@@ -47,7 +41,7 @@ module _ (n : ℕ) (sheet sheet′ : List ℕ) (a : Answer) (h : Fresh n sheet s
   unfolding startSession
   start-done e = record {
     answer = h .answer;
-    session = sym (session-done (freshCode n (length sheet)) (freshSession n) noSession (sym code-is ∙ e));
+    session = sym (if-done (freshCode n (length sheet)) (freshSession n) noSession (sym code-is ∙ e));
     words = h .words;
   }
 
@@ -55,11 +49,11 @@ module _ (n : ℕ) (sheet sheet′ : List ℕ) (a : Answer) (h : Fresh n sheet s
 
 pub after-done : (s : Session) (a : Answer) → a .code ≡ 0 → counted s a ≡ sessionAfter s a
 unfolding sessionAfter
-after-done s a e = sym (session-done (a .code) (counted s a) s e)
+after-done s a e = sym (if-done (a .code) (counted s a) s e)
 
 pub after-refused : (s : Session) (a : Answer) → (a .code ≡ 0 → ⊥) → s ≡ sessionAfter s a
 unfolding sessionAfter
-after-refused s a f = sym (session-refused (a .code) (counted s a) s f)
+after-refused s a f = sym (if-refused (a .code) (counted s a) s f)
 
 -- ---- take
 

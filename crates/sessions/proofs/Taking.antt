@@ -13,17 +13,17 @@ use Rattle.panel.specs.Transitions.{transitionWord}
 use Rattle.prime.specs.Sheets.{takeSheet, struckCount, addedCount}
 use Rattle.book.specs.Books.{withWord}
 use Rattle.sheet.specs.Taking.{tallyOf}
-use Rattle.answers.specs.Answers.{plain, done, answerIf}
+use Rattle.answers.specs.Answers.{plain, done, ifDone}
 use Rattle.answers.specs.declared.Answer.{Answer}
-use Rattle.answers.proofs.Laws.{answer-done, refuse-none, refuse-both}
-use Rattle.calls.specs.Take.{lentCode, entryCode, takeCode, takeAnswer, Ready}
+use Rattle.answers.proofs.Laws.{refuse-none, refuse-both, if-done}
+use Rattle.calls.specs.Take.{givenCode, entryCode, takeCode, takeAnswer, Ready}
 use Rattle.calls.proofs.Ends.{entry-ready, count-is, added-few, sheets-few}
 use Rattle.sessions.specs.declared.Session.{Session}
 use Rattle.sessions.specs.Sessions.{totalsFit, sessionAnswer}
 
 -- a take that is not refused was not spoilt
-lent-unspoilt : (spoilt : Bool) (n : ℕ) (book : List ℕ) (books : ℕ) (sheet : List ℕ) (sheets i j : ℕ) → lentCode spoilt n book books sheet sheets i j ≡ 0 → spoilt ≡ false
-unfolding lentCode
+lent-unspoilt : (spoilt : Bool) (n : ℕ) (book : List ℕ) (books : ℕ) (sheet : List ℕ) (sheets i j : ℕ) → givenCode spoilt n book books sheet sheets i j ≡ 0 → spoilt ≡ false
+unfolding givenCode
 lent-unspoilt spoilt n book books sheet sheets i j e =
     or-no spoilt (ltb (length book) books || ltb (length sheet) sheets) (refuse-none (spoilt || (ltb (length book) books || ltb (length sheet) sheets)) 2 _ (refuse-none (not (panelSize n)) 1 _ e .1) .0)
   where
@@ -48,7 +48,7 @@ module _ (s : Session) (book sheet : List ℕ) (i j : ℕ) where
   unfolding sessionAnswer takeAnswer
   code-is = picked code
     where
-      picked : (c : ℕ) → answerIf c (done (length (withWord (transitionWord i j) (take (s .«book_count») book))) (length new) (struckCount old new) (addedCount old new)) (plain c 0 (s .«book_count») (s .«sheet_count»)) .code ≡ c
+      picked : (c : ℕ) → ifDone c (done (length (withWord (transitionWord i j) (take (s .«book_count») book))) (length new) (struckCount old new) (addedCount old new)) (plain c 0 (s .«book_count») (s .«sheet_count»)) .code ≡ c
       picked zero = refl
       picked (suc c) = refl
 
@@ -62,7 +62,7 @@ module _ (s : Session) (book sheet : List ℕ) (i j : ℕ) where
 
     pub totals-fitted : totalsFit s ≡ true
     unfolding entryCode
-    totals-fitted = not-no (totalsFit s) (lent-unspoilt (not (totalsFit s)) (s .n) book (s .«book_count») sheet (s .«sheet_count») i j (refuse-both (lentCode (not (totalsFit s)) (s .n) book (s .«book_count») sheet (s .«sheet_count») i j) _ entry-zero .0))
+    totals-fitted = not-no (totalsFit s) (lent-unspoilt (not (totalsFit s)) (s .n) book (s .«book_count») sheet (s .«sheet_count») i j (refuse-both (givenCode (not (totalsFit s)) (s .n) book (s .«book_count») sheet (s .«sheet_count») i j) _ entry-zero .0))
       where
         not-no : (b : Bool) → not b ≡ false → b ≡ true
         not-no true p = refl
@@ -73,7 +73,7 @@ module _ (s : Session) (book sheet : List ℕ) (i j : ℕ) where
 
     pub answer-is : sessionAnswer s book sheet i j ≡ done (length (withWord (transitionWord i j) (take (s .«book_count») book))) (length new) (struckCount old new) (addedCount old new)
     unfolding sessionAnswer takeAnswer
-    answer-is = answer-done code _ _ code-zero
+    answer-is = if-done code _ _ code-zero
 
     pub few-struck : sessionAnswer s book sheet i j .struck ≤ 16777216
     unfolding struckCount

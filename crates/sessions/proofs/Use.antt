@@ -7,15 +7,16 @@ use native.Mathlib.Omega.{arith}
 use lib.ListN.{length}
 use Rattle.calls.specs.Fresh.{freshCode}
 use Rattle.sessions.specs.declared.Session.{Session}
-use Rattle.sessions.specs.Sessions.{sessionIf, noSession, freshSession, startSession, Balanced, totalsFit, counted, sessionAfter, sessionAnswer, sessionTaken, Used, started, took}
+use Rattle.sessions.specs.Sessions.{noSession, freshSession, startSession, Balanced, totalsFit, counted, sessionAfter, sessionAnswer, sessionTaken, Used, started, took}
 use Rattle.sessions.proofs.Totals.{fit-i}
 use Rattle.sessions.proofs.Taking.{counts-balanced}
+use Rattle.answers.specs.Answers.{ifDone}
 
 pub start-balanced : (n : ℕ) (sheet : List ℕ) → Balanced (startSession n sheet)
 unfolding startSession
 start-balanced n sheet = go (freshCode n (length sheet))
   where
-    go : (c : ℕ) → Balanced (sessionIf c (freshSession n) noSession)
+    go : (c : ℕ) → Balanced (ifDone c (freshSession n) noSession)
     go zero = refl
     go (suc c) = refl
 
@@ -24,7 +25,7 @@ pub take-balanced : (s : Session) (book sheet : List ℕ) (i j : ℕ) → Balanc
 unfolding sessionTaken sessionAfter
 take-balanced s book sheet i j b = go (sessionAnswer s book sheet i j .code) refl
   where
-    go : (c : ℕ) → sessionAnswer s book sheet i j .code ≡ c → Balanced (sessionIf c (counted s (sessionAnswer s book sheet i j)) s)
+    go : (c : ℕ) → sessionAnswer s book sheet i j .code ≡ c → Balanced (ifDone c (counted s (sessionAnswer s book sheet i j)) s)
     go zero e = omega (arith, b, counts-balanced s book sheet i j e)
     go (suc c) e = b
 

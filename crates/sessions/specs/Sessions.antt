@@ -10,11 +10,7 @@ use Rattle.calls.specs.Fresh.{freshCode, freshAnswer, freshWords}
 use Rattle.calls.specs.Take.{takeAnswer, takeBook, takeWords}
 use Rattle.sessions.specs.declared.Session.{Session}
 use Rattle.sessions.specs.declared.Outcome.{Outcome}
-
--- the first session where the code is 0, else the second
-abbrev pub sessionIf : ℕ → Session → Session → Session
-sessionIf zero s t = s
-sessionIf (suc c) s t = t
+use Rattle.answers.specs.Answers.{ifDone}
 
 -- ---- start
 
@@ -28,7 +24,7 @@ freshSession n = record { n = n; «book_count» = 0; «sheet_count» = n; struck
 
 -- the session that start gives; a refused start gives five zeros
 unfoldable pub startSession : ℕ → List ℕ → Session
-startSession n sheet = sessionIf (freshCode n (length sheet)) (freshSession n) noSession
+startSession n sheet = ifDone (freshCode n (length sheet)) (freshSession n) noSession
 
 -- what start does: its outcome r, and the sheet before and after
 pub record Starts (n : ℕ) (sheet sheet′ : List ℕ) (r : Outcome) : Type 0 where
@@ -52,7 +48,7 @@ counted s a = record { n = s .n; «book_count» = a .«book_count»; «sheet_cou
 
 -- the session after an answer; a refusal or code 1 changes nothing in it
 unfoldable pub sessionAfter : Session → Answer → Session
-sessionAfter s a = sessionIf (a .code) (counted s a) s
+sessionAfter s a = ifDone (a .code) (counted s a) s
 
 -- after code 0 the new totals are small
 pub record Summable (s : Session) (a : Answer) : Type 0 where

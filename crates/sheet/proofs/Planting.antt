@@ -1,7 +1,7 @@
 -- Candidates put into the table one after the other, and the visit of one rule.
 use mathlib.Core.Path.{_≡_, refl, sym, ap, ap₂, _∙_, subst}
 use mathlib.Core.Logic.{_⊎_, inl, inr}
-use mathlib.Core.Bool.{Bool, true, false, not, _||_}
+use mathlib.Core.Bool.{Bool, true, false, not, _||_, cond}
 use mathlib.Core.List.{List, [], _∷_, _++_}
 use Prim.Native.Nat.{ℕ, zero, suc, _+_, _-_, _^_, _≤_, _<_}
 use native.Mathlib.Nat.{le-of-lt, le-refl, lt-irrefl, not-suc-le-zero, eq-or-lt-of-le}
@@ -11,7 +11,7 @@ use lib.ListN.{length, take, drop}
 use lib.Seq.{length-take-le}
 use lib.Dec.{eqb, ltb}
 use borrow.Author.Tests.{eqb-true, eqb-false, ltb-true, ltb-false}
-use Rattle.table.specs.Lists.{consIf, pick, increasing, insert, insertAll, remove}
+use Rattle.table.specs.Lists.{consIf, increasing, insert, insertAll, remove}
 use Rattle.table.specs.Surgery.{Holds}
 use Rattle.table.proofs.Basics.{false-test}
 use Rattle.table.proofs.Inserting.{insert-length, insertAll-append, insert-if}
@@ -30,25 +30,25 @@ holds-same s have l = record { is = refl; fits = l; same = refl }
 -- ---- one candidate
 
 module _ (s : List ℕ) (have : ℕ) (x m : Bool) (ex : x ≡ m) where
-  pub one-room : x ≡ true → (c : ℕ) → have ≤ length s → length (pick m (insert c (take have s)) (take have s)) ≤ length s → have < length s
+  pub one-room : x ≡ true → (c : ℕ) → have ≤ length s → length (cond m (insert c (take have s)) (take have s)) ≤ length s → have < length s
   one-room e c l h =
-      let q : length (insert c (take have s)) ≤ length s = subst (λ (b : Bool). length (pick b (insert c (take have s)) (take have s)) ≤ length s) (sym ex ∙ e) h in
+      let q : length (insert c (take have s)) ≤ length s = subst (λ (b : Bool). length (cond b (insert c (take have s)) (take have s)) ≤ length s) (sym ex ∙ e) h in
       omega (arith, insert-length c (take have s), length-take-le have s l)
 
   pub one-done : x ≡ true → (c d : ℕ) (z : List ℕ) → c ≡ d → have < length s → z ≡ insert c (take have s) ++ drop (have + 1) s
-      → Holds z (have + 1) (length s) (pick m (insert d (take have s)) (take have s))
+      → Holds z (have + 1) (length s) (cond m (insert d (take have s)) (take have s))
   one-done e c d z ec l ez =
-      subst (λ (b : Bool). Holds z (have + 1) (length s) (pick b (insert d (take have s)) (take have s))) (sym (sym ex ∙ e))
+      subst (λ (b : Bool). Holds z (have + 1) (length s) (cond b (insert d (take have s)) (take have s))) (sym (sym ex ∙ e))
       (subst (λ (y : ℕ). Holds z (have + 1) (length s) (insert y (take have s))) ec (inserted-table s z have c l ez))
 
-  pub one-none : x ≡ false → (d : ℕ) → have ≤ length s → Holds s have (length s) (pick m (insert d (take have s)) (take have s))
+  pub one-none : x ≡ false → (d : ℕ) → have ≤ length s → Holds s have (length s) (cond m (insert d (take have s)) (take have s))
   one-none e d l =
-      subst (λ (b : Bool). Holds s have (length s) (pick b (insert d (take have s)) (take have s))) (sym (sym ex ∙ e)) (holds-same s have l)
+      subst (λ (b : Bool). Holds s have (length s) (cond b (insert d (take have s)) (take have s))) (sym (sym ex ∙ e)) (holds-same s have l)
 
 -- ---- one relay after the other
 
 picked-suc : (v mask b i : ℕ) (tab : List ℕ)
-    → insertAll (picked (suc v) mask b i) tab ≡ pick (on v mask) (insert (candidate b v i) (insertAll (picked v mask b i) tab)) (insertAll (picked v mask b i) tab)
+    → insertAll (picked (suc v) mask b i) tab ≡ cond (on v mask) (insert (candidate b v i) (insertAll (picked v mask b i) tab)) (insertAll (picked v mask b i) tab)
 unfolding picked
 picked-suc v mask b i tab =
     insertAll-append (picked v mask b i) (consIf (on v mask) (candidate b v i) []) tab
@@ -61,7 +61,7 @@ picked-up v (suc n) mask b i tab l = go (eqb v (suc n)) refl (λ (k : v ≤ n). 
     more : length (insertAll (picked n mask b i) tab) ≤ length (insertAll (picked (suc n) mask b i) tab)
     more = rw (picked-suc n mask b i tab) (step (on n mask))
       where
-        step : (x : Bool) → length (insertAll (picked n mask b i) tab) ≤ length (pick x (insert (candidate b n i) (insertAll (picked n mask b i) tab)) (insertAll (picked n mask b i) tab))
+        step : (x : Bool) → length (insertAll (picked n mask b i) tab) ≤ length (cond x (insert (candidate b n i) (insertAll (picked n mask b i) tab)) (insertAll (picked n mask b i) tab))
         step true = omega (arith, insert-length (candidate b n i) (insertAll (picked n mask b i) tab))
         step false = le-refl _
 
@@ -79,15 +79,15 @@ module _ (n mask b i v : ℕ) (tab : List ℕ) (len : ℕ) (cur : List ℕ) (hav
   pub plant-order : increasing (take have cur) ≡ true
   plant-order = ap increasing (q .is) ∙ p .in-order v (le-of-lt lv)
 
-  pub plant-room : length (pick (on v mask) (insert (candidate b v i) (take have cur)) (take have cur)) ≤ length cur
+  pub plant-room : length (cond (on v mask) (insert (candidate b v i) (take have cur)) (take have cur)) ≤ length cur
   plant-room =
       let l : length (insertAll (picked (suc v) mask b i) tab) ≤ len = omega (arith, picked-up (suc v) n mask b i tab lv, p .fits) in
       rw (q .is, q .same) (subst (λ (w : List ℕ). length w ≤ len) (picked-suc v mask b i tab) l)
 
-  pub plant-more : (z : List ℕ) (r : ℕ) → Holds z r (length cur) (pick (on v mask) (insert (candidate b v i) (take have cur)) (take have cur))
+  pub plant-more : (z : List ℕ) (r : ℕ) → Holds z r (length cur) (cond (on v mask) (insert (candidate b v i) (take have cur)) (take have cur))
       → Holds z r len (insertAll (picked (v + 1) mask b i) tab)
   plant-more z r h = record {
-    is = h .is ∙ ap (λ (l : List ℕ). pick (on v mask) (insert (candidate b v i) l) l) (q .is) ∙ sym (picked-suc v mask b i tab) ∙ ap (λ (k : ℕ). insertAll (picked k mask b i) tab) (sym (add-one v));
+    is = h .is ∙ ap (λ (l : List ℕ). cond (on v mask) (insert (candidate b v i) l) l) (q .is) ∙ sym (picked-suc v mask b i tab) ∙ ap (λ (k : ℕ). insertAll (picked k mask b i) tab) (sym (add-one v));
     fits = h .fits;
     same = h .same ∙ q .same;
   }
@@ -211,7 +211,7 @@ module _ (all : Bool) (n t b : ℕ) (s : List ℕ) (have : ℕ) (x : Bool) (ex :
   to-stay : stays all n t b tab ≡ true → have ≤ length s → Holds s have (length s) (visited all n t b tab)
   unfolding visited
   to-stay e l =
-      subst (λ (a : Bool). Holds s have (length s) (pick a tab (planted n (heirMask n t b tab) b (state t) tab))) (sym e) (holds-same s have l)
+      subst (λ (a : Bool). Holds s have (length s) (cond a tab (planted n (heirMask n t b tab) b (state t) tab))) (sym e) (holds-same s have l)
 
   pub visit-spared : x ≡ true → have ≤ length s → Holds s have (length s) (visited all n t b tab)
   visit-spared e l = to-stay (stays-def all n t b tab ∙ ap (λ (a : Bool). a || not (all || eqb (heirMask n t b tab) 0)) (sym ex ∙ e)) l
@@ -236,5 +236,5 @@ module _ (all : Bool) (n t b : ℕ) (s : List ℕ) (have : ℕ) (x : Bool) (ex :
     pub visit-done : y ≡ true → (i : ℕ) → i ≡ state t → (z : List ℕ) (r : ℕ) → Holds z r (length s) (planted n m b i tab) → Holds z r (length s) (visited all n t b tab)
     unfolding visited
     visit-done f i ei z r h =
-        subst (λ (a : Bool). Holds z r (length s) (pick a tab (planted n (heirMask n t b tab) b (state t) tab))) (sym (visit-goes f))
+        subst (λ (a : Bool). Holds z r (length s) (cond a tab (planted n (heirMask n t b tab) b (state t) tab))) (sym (visit-goes f))
         (subst (λ (k : ℕ). Holds z r (length s) (planted n k b (state t) tab)) em (subst (λ (k : ℕ). Holds z r (length s) (planted n m b k tab)) ei h))

@@ -1,7 +1,7 @@
 -- Take in place, from the end of the table to its front and twice over: what holds on the way, and the new sheet at the end.
 use mathlib.Core.Path.{_≡_, refl, sym, ap, _∙_, subst}
 use mathlib.Core.Logic.{_⊎_, inl, inr}
-use mathlib.Core.Bool.{Bool, true, false, not, _||_, false≢true}
+use mathlib.Core.Bool.{Bool, true, false, not, _||_, false≢true, cond}
 use mathlib.Core.List.{List, _++_, List·Memᴰ as Mem, List·Memᴰ·not-nil, List·Memᴰ·cases-cons}
 use Prim.Native.Nat.{ℕ, zero, suc, _+_, _-_, _≤_, _<_}
 use native.Mathlib.Nat.{not-suc-le-zero, le-refl}
@@ -10,7 +10,7 @@ use lib.ListN.{length, take, drop, getD, drop-of-length-le}
 use lib.Seq.{length-take-le, getD-take, drop-cons, drop-append-seam}
 use lib.Dec.{eqb}
 use borrow.Author.Tests.{eqb-true, eqb-false}
-use Rattle.table.specs.Lists.{filter, pick, increasing, insertAll, remove}
+use Rattle.table.specs.Lists.{filter, increasing, insertAll, remove}
 use Rattle.table.specs.Surgery.{Holds}
 use Rattle.table.proofs.Basics.{either, at-in, each-front}
 use Rattle.table.proofs.Inserting.{insertAll-length, insertAll-e}
@@ -263,9 +263,9 @@ module _ (n : ℕ) (small : n ≤ 10) (t : ℕ) (s : List ℕ) (good : goodSheet
           fits = omega (arith, ap length (planted-in f), length-after f (eqb phase 1) refl q, k .same);
         }
 
-    visited-is : (x : Bool) → stays (eqb phase 1) n t b tab ≡ x → visited (eqb phase 1) n t b tab ≡ pick x tab (planted n (heirMask n t b tab) b (state t) tab)
+    visited-is : (x : Bool) → stays (eqb phase 1) n t b tab ≡ x → visited (eqb phase 1) n t b tab ≡ cond x tab (planted n (heirMask n t b tab) b (state t) tab)
     unfolding visited
-    visited-is x e = ap (λ (y : Bool). pick y tab (planted n (heirMask n t b tab) b (state t) tab)) e
+    visited-is x e = ap (λ (y : Bool). cond y tab (planted n (heirMask n t b tab) b (state t) tab)) e
 
     sweeping-stay : (z : List ℕ) (r : ℕ) → stays (eqb phase 1) n t b tab ≡ true → Holds z r (length cur) tab → Sweeping n t s len z r (i - 1) phase
     sweeping-stay z r st h = record {

@@ -1,11 +1,11 @@
 -- Take in place: what is counted before anything is written, and what a visit of one rule does to the table.
 use mathlib.Core.Path.{_≡_}
-use mathlib.Core.Bool.{Bool, true, false, not, _||_}
+use mathlib.Core.Bool.{Bool, true, false, not, _||_, cond}
 use mathlib.Core.List.{List}
 use Prim.Native.Nat.{ℕ, zero, suc, _+_, _*_, _≤_, _<_}
 use lib.Dec.{eqb}
 use lib.ListN.{length, take, drop, getD}
-use Rattle.table.specs.Lists.{oneIf, filter, pick, increasing, insertAll, remove}
+use Rattle.table.specs.Lists.{oneIf, filter, increasing, insertAll, remove}
 use Rattle.panel.specs.Masks.{on}
 use Rattle.panel.specs.Rules.{validRule}
 use Rattle.panel.specs.Transitions.{state, spared}
@@ -50,7 +50,7 @@ planted n mask b i tab = insertAll (picked n mask b i) (remove b tab)
 
 -- the table after a visit of its rule b
 unfoldable pub visited : Bool → ℕ → ℕ → ℕ → List ℕ → List ℕ
-visited all n t b tab = pick (stays all n t b tab) tab (planted n (heirMask n t b tab) b (state t) tab)
+visited all n t b tab = cond (stays all n t b tab) tab (planted n (heirMask n t b tab) b (state t) tab)
 
 -- candidates can be put into the table one after the other: it stays in order, and there is room
 pub record Plantable (n mask b i : ℕ) (tab : List ℕ) (room : ℕ) : Type 0 where

@@ -1,11 +1,11 @@
 // The sheet in its lent slice: take counted before anything is written, and done in place.
 ghost use mathlib.Core.Path.{_≡_};
-ghost use mathlib.Core.Bool.{true, false, _||_};
+ghost use mathlib.Core.Bool.{true, false, _||_, cond};
 ghost use lib.Dec.{eqb};
 ghost use Prim.Native.Nat.{_<_, _≤_, _+_};
 ghost use lib.ListN.{length, take, drop, getD};
 ghost use mathlib.Core.List.{_++_};
-ghost use Rattle.table.specs.Lists.{increasing, insertAll, remove, pick, insert};
+ghost use Rattle.table.specs.Lists.{increasing, insertAll, remove, insert};
 ghost use Rattle.table.specs.Surgery.{Holds};
 ghost use Rattle.panel.specs.Masks.{on};
 ghost use Rattle.panel.specs.Rules.{validRule};
@@ -79,8 +79,8 @@ pub fn count_changes(sheet: &[u32], n: u32, t: u32) -> Tally
 
 // The candidate of b on the relay v goes into its place, if the mask has v.
 fn plant_one(sheet: &mut [u32], have: usize, v: u32, i: u32, b: u32, mask: u32) -> usize
-    requires { ⌜ (v < 10) × (b < 16777216) × (have ≤ length (now sheet)) × (increasing (take have (now sheet)) ≡ true) × (length (pick (on v mask) (insert (candidate b v i) (take have (now sheet))) (take have (now sheet))) ≤ length (now sheet)) ⌝ }
-    ensures { λ r. ⌜ Holds (now (sheet .exit)) r (length (now (sheet .entry))) (pick (on v mask) (insert (candidate b v i) (take have (now (sheet .entry)))) (take have (now (sheet .entry)))) ⌝ }
+    requires { ⌜ (v < 10) × (b < 16777216) × (have ≤ length (now sheet)) × (increasing (take have (now sheet)) ≡ true) × (length (cond (on v mask) (insert (candidate b v i) (take have (now sheet))) (take have (now sheet))) ≤ length (now sheet)) ⌝ }
+    ensures { λ r. ⌜ Holds (now (sheet .exit)) r (length (now (sheet .entry))) (cond (on v mask) (insert (candidate b v i) (take have (now (sheet .entry)))) (take have (now (sheet .entry)))) ⌝ }
 {
     if panel::is_on(v, mask) {
         let c = panel::candidate_on(b, v, i);

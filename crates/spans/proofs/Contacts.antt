@@ -1,7 +1,7 @@
 -- One contact fewer in a rule: the rule with it back is a candidate.
 use mathlib.Core.Path.{_≡_, sym, ap, ap₂, _∙_, subst}
 use mathlib.Core.Logic.{_⊎_, inl, inr}
-use mathlib.Core.Bool.{Bool, true, false}
+use mathlib.Core.Bool.{Bool, true, false, cond}
 use Prim.Native.Nat.{ℕ, _+_, _-_, _*_, _/_, _%_, _^_, _≤_, _<_}
 use native.Mathlib.Nat.{lt-of-le-of-lt}
 use native.Mathlib.Omega.{arith}
@@ -13,7 +13,7 @@ use Rattle.panel.specs.Contacts.{free, contact, candidate}
 use Rattle.panel.proofs.Masks.{on-le, sub-off, within-on, within-apart, apart-comm, apart-on, on-within, not-within, off-zero}
 use Rattle.panel.proofs.Words.{Narrows, narrows-e, narrows-i, ruleWord-is, word-fields, rule-fields, mask-small}
 use Rattle.panel.proofs.Candidates.{add-keeps, free-mustOn, free-mustOff, free-i, added}
-use Rattle.spans.specs.Fewer.{pickWord, without}
+use Rattle.spans.specs.Fewer.{without}
 
 -- ---- one bit fewer in a mask
 
@@ -27,19 +27,19 @@ sub-within n v x l p =
 module _ (w v : ℕ) where
   pub without-on : on v (mustOn w) ≡ true → w - 2 ^ v * 1024 ≡ without w v
   unfolding without
-  without-on e = sym (ap (λ (b : Bool). pickWord b (w - 2 ^ v * 1024) (pickWord (on v (mustOff w)) (w - 2 ^ v) w)) e)
+  without-on e = sym (ap (λ (b : Bool). cond b (w - 2 ^ v * 1024) (cond (on v (mustOff w)) (w - 2 ^ v) w)) e)
 
   pub without-off : on v (mustOn w) ≡ false → on v (mustOff w) ≡ true → w - 2 ^ v ≡ without w v
   unfolding without
   without-off d e =
-      sym (ap (λ (b : Bool). pickWord b (w - 2 ^ v * 1024) (pickWord (on v (mustOff w)) (w - 2 ^ v) w)) d
-      ∙ ap (λ (b : Bool). pickWord b (w - 2 ^ v) w) e)
+      sym (ap (λ (b : Bool). cond b (w - 2 ^ v * 1024) (cond (on v (mustOff w)) (w - 2 ^ v) w)) d
+      ∙ ap (λ (b : Bool). cond b (w - 2 ^ v) w) e)
 
   pub without-none : on v (mustOn w) ≡ false → on v (mustOff w) ≡ false → w ≡ without w v
   unfolding without
   without-none d e =
-      sym (ap (λ (b : Bool). pickWord b (w - 2 ^ v * 1024) (pickWord (on v (mustOff w)) (w - 2 ^ v) w)) d
-      ∙ ap (λ (b : Bool). pickWord b (w - 2 ^ v) w) e)
+      sym (ap (λ (b : Bool). cond b (w - 2 ^ v * 1024) (cond (on v (mustOff w)) (w - 2 ^ v) w)) d
+      ∙ ap (λ (b : Bool). cond b (w - 2 ^ v) w) e)
 
   -- the word is large enough for the difference
   pub room-on : on v (mustOn w) ≡ true → 2 ^ v * 1024 ≤ w

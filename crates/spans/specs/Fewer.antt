@@ -1,18 +1,13 @@
 -- One contact fewer in a body.
 use Prim.Native.Nat.{ℕ, zero, suc, _-_, _*_, _^_}
-use mathlib.Core.Bool.{Bool, true, false, not, _&&_, _||_}
+use mathlib.Core.Bool.{Bool, true, false, not, _&&_, _||_, cond}
 use lib.Dec.{eqb}
 use Rattle.panel.specs.Masks.{on}
 use Rattle.panel.specs.Rules.{mustOn, mustOff}
 
--- a where the test passes, else b
-abbrev pub pickWord : Bool → ℕ → ℕ → ℕ
-pickWord true a b = a
-pickWord false a b = b
-
 -- the rule w with its contact on the relay v taken away; w itself where it has none
 unfoldable pub without : ℕ → ℕ → ℕ
-without w v = pickWord (on v (mustOn w)) (w - 2 ^ v * 1024) (pickWord (on v (mustOff w)) (w - 2 ^ v) w)
+without w v = cond (on v (mustOn w)) (w - 2 ^ v * 1024) (cond (on v (mustOff w)) (w - 2 ^ v) w)
 
 -- q passes at x, and x is not w
 unfoldable pub smaller : (ℕ → Bool) → ℕ → ℕ → Bool

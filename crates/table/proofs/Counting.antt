@@ -1,6 +1,6 @@
 -- Elements in one list and in another: what two increasing lists share, and how a change of list is counted.
 use mathlib.Core.Path.{_≡_, refl, ap, ap₂}
-use mathlib.Core.Bool.{Bool, true, false, not}
+use mathlib.Core.Bool.{Bool, true, false, not, cond}
 use mathlib.Core.List.{List, [], _∷_, List·Memᴰ as Mem, List·Memᴰ·head as here, List·Memᴰ·tail as there, Memᴰ·cast}
 use Prim.Native.Nat.{ℕ, suc, _+_, _≤_}
 use native.Mathlib.Omega.{arith}
@@ -44,7 +44,7 @@ unfolding missing
 balance old new p q =
     omega (arith, parted (λ x. has x new) old, parted (λ x. has x old) new, ap length (shared old new p q))
 
--- tests that agree on the elements pick the same
+-- tests that agree on the elements cond the same
 pub filter-ext : (f g : ℕ → Bool) (s : List ℕ) → ((x : ℕ) → Mem x s → f x ≡ g x) → filter f s ≡ filter g s
 filter-ext f g [] h = refl
 filter-ext f g (x ∷ xs) h = ap₂ (λ (b : Bool) (l : List ℕ). consIf b x l) (h x (here refl)) (filter-ext f g xs (λ y m. h y (there m)))

@@ -1,6 +1,6 @@
 -- Sums over a list, and a list with one element removed.
 use mathlib.Core.Path.{_≡_, refl, sym, ap, _∙_}
-use mathlib.Core.Bool.{Bool, true, false, not}
+use mathlib.Core.Bool.{Bool, true, false, not, cond}
 use mathlib.Core.List.{List, [], _∷_, List·Memᴰ as Mem, List·Memᴰ·head as here, List·Memᴰ·tail as there, List·Memᴰ·eq-of-singleton, Memᴰ·cast}
 use Prim.Native.Nat.{ℕ, suc, _+_, _≤_}
 use native.Mathlib.Nat.{le-refl}
@@ -8,7 +8,7 @@ use native.Mathlib.Omega.{arith}
 use lib.ListN.{length}
 use lib.Dec.{eqb, ltb}
 use borrow.Author.Tests.{eqb-true, eq-eqb}
-use Rattle.table.specs.Lists.{remove, consIf, filter, increasing, pick, insert, insertAll}
+use Rattle.table.specs.Lists.{remove, consIf, filter, increasing, insert, insertAll}
 use Rattle.table.proofs.Basics.{not-i, not-e, filter-e, filter-i}
 use Rattle.table.proofs.Increasing.{filter-increasing, increasing-unique}
 use Rattle.table.proofs.Counting.{parted}
@@ -24,7 +24,7 @@ unfolding sum
 sum-insert f x [] = refl
 sum-insert f x (y ∷ ys) = go (ltb y x) (sum-insert f x ys)
   where
-    go : (b : Bool) → sum f (insert x ys) ≡ f x + sum f ys → sum f (pick b (y ∷ insert x ys) (x ∷ y ∷ ys)) ≡ f x + (f y + sum f ys)
+    go : (b : Bool) → sum f (insert x ys) ≡ f x + sum f ys → sum f (cond b (y ∷ insert x ys) (x ∷ y ∷ ys)) ≡ f x + (f y + sum f ys)
     go true ih = omega (arith, ih)
     go false ih = refl
 

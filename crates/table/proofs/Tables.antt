@@ -1,7 +1,7 @@
 -- Tables in a slice: a word put in or taken out, places in order, and how long a table can be.
 use mathlib.Core.Path.{_≡_, refl, sym, ap, ap₂, _∙_, subst}
 use mathlib.Core.Logic.{_⊎_, inl, inr}
-use mathlib.Core.Bool.{Bool, true, false, not}
+use mathlib.Core.Bool.{Bool, true, false, not, cond}
 use mathlib.Core.List.{List, [], _∷_, _++_, append-assoc, List·Memᴰ as Mem, List·Memᴰ·head as here, List·Memᴰ·tail as there, List·Memᴰ·not-nil}
 use Prim.Native.Nat.{ℕ, zero, suc, _+_, _-_, _≤_, _<_, suc-le-suc}
 use native.Mathlib.Nat.{le-of-suc-le-suc, not-suc-le-zero, zero-lt-suc, lt-irrefl, le-refl}
@@ -11,7 +11,7 @@ use lib.ListN.{length, take, drop, getD, replicate, length-append, length-drop, 
 use lib.Seq.{take-at, take-take, length-take-le, getD-take, drop-drop, drop-append-le, take-append-le}
 use lib.Dec.{ltb}
 use borrow.Author.Tests.{eq-eqb, ne-eqb, lt-ltb, ltb-true}
-use Rattle.table.specs.Lists.{consIf, pick, increasing, insert, insertAll, remove}
+use Rattle.table.specs.Lists.{consIf, increasing, insert, insertAll, remove}
 use Rattle.table.specs.Surgery.{removedAt, movedAt, placeOf, oneMoreIf, clearedFrom, filled, Holds}
 use Rattle.table.proofs.Basics.{at-in}
 use Rattle.table.proofs.Increasing.{first-below, rest-increasing}
@@ -99,7 +99,7 @@ removed-table s e count at l h i p =
 insert-past : (h : ℕ) (xs ys : List ℕ) → ((x : ℕ) → Mem x xs → x < h) → insert h (xs ++ ys) ≡ xs ++ insert h ys
 insert-past h [] ys f = refl
 insert-past h (x ∷ xs) ys f =
-    ap (λ (a : Bool). pick a (x ∷ insert h (xs ++ ys)) (h ∷ x ∷ xs ++ ys)) (lt-ltb x h (f x (here refl)))
+    ap (λ (a : Bool). cond a (x ∷ insert h (xs ++ ys)) (h ∷ x ∷ xs ++ ys)) (lt-ltb x h (f x (here refl)))
     ∙ ap (λ (l : List ℕ). x ∷ l) (insert-past h xs ys (λ y m. f y (there m)))
 
 pub insertAll-past : (hs xs ys : List ℕ) → ((h x : ℕ) → Mem h hs → Mem x xs → x < h) → insertAll hs (xs ++ ys) ≡ xs ++ insertAll hs ys

@@ -1,6 +1,6 @@
 -- Lists of words: tests over them, what a loop collects, strictly increasing lists, and what stands in one and not in another.
 use Prim.Native.Nat.{ℕ, zero, suc}
-use mathlib.Core.Bool.{Bool, true, false, not, _&&_, _||_}
+use mathlib.Core.Bool.{Bool, true, false, not, _&&_, _||_, cond}
 use mathlib.Core.List.{List, [], _∷_, _++_}
 use lib.Dec.{ltb, leb, eqb}
 use lib.ListN.{length}
@@ -57,15 +57,10 @@ abbrev pub distinct : List ℕ → Bool
 distinct [] = true
 distinct (x ∷ xs) = not (has x xs) && distinct xs
 
--- the first list where the test passes, else the second
-abbrev pub pick : Bool → List ℕ → List ℕ → List ℕ
-pick true xs ys = xs
-pick false xs ys = ys
-
 -- x put in front of the first element that is not below it
 abbrev pub insert : ℕ → List ℕ → List ℕ
 insert x [] = x ∷ []
-insert x (y ∷ ys) = pick (ltb y x) (y ∷ insert x ys) (x ∷ (y ∷ ys))
+insert x (y ∷ ys) = cond (ltb y x) (y ∷ insert x ys) (x ∷ (y ∷ ys))
 
 -- each element of xs put into the list
 abbrev pub insertAll : List ℕ → List ℕ → List ℕ

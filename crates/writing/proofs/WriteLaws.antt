@@ -9,13 +9,13 @@ use lib.ListN.{length, take}
 use lib.Seq.{length-take-le}
 use borrow.Author.Tests.{lt-ltb, le-ltb, ltb-true, ltb-false, leb-true, leb-false, lt-leb}
 use Rattle.table.proofs.Basics.{and-r}
-use Rattle.answers.proofs.Laws.{words-refused, refuse-none}
+use Rattle.answers.proofs.Laws.{refuse-none, if-refused}
 use Rattle.fields.specs.Decimals.{decimal}
 use Rattle.panel.specs.Masks.{panelSize}
 use Rattle.prime.specs.Sheets.{goodSheet}
 use Rattle.writing.specs.TableText.{tableText}
 use Rattle.writing.specs.SheetText.{sheetTable, sheetWord, sheetText}
-use Rattle.writing.specs.Writing.{Put, countLength, textLength, writeCode, withLength, lengthIf, Writes}
+use Rattle.writing.specs.Writing.{Put, countLength, textLength, writeCode, withLength, Writes}
 use Rattle.writing.specs.declared.Table.{Table}
 use Rattle.writing.specs.declared.WriteAnswer.{WriteAnswer}
 use Rattle.writing.proofs.TextLaws.{sheet-length, rows-fit}
@@ -77,11 +77,11 @@ module _ (n : ℕ) (sheet : List ℕ) (count room : ℕ) where
           code-0 f = rw (p, le-ltb (length sheet) count c, g, long, le-ltb room (textLength sheetTable sheetWord n count) (leb-true _ room (fits-is ∙ f)))
 
 -- code 0: the count is in the slice, and the text in the room
-pub record Ready (n : ℕ) (sheet : List ℕ) (count room : ℕ) : Type 0 where
+pub record Writable (n : ℕ) (sheet : List ℕ) (count room : ℕ) : Type 0 where
   pub counted : count ≤ length sheet
   pub fits : length (sheetText n (take count sheet)) ≤ room
 
-pub ready : (n : ℕ) (sheet : List ℕ) (count room : ℕ) → writeCode n sheet count room ≡ 0 → Ready n sheet count room
+pub ready : (n : ℕ) (sheet : List ℕ) (count room : ℕ) → writeCode n sheet count room ≡ 0 → Writable n sheet count room
 unfolding writeCode
 ready n sheet count room h =
     let p = refuse-none (not (panelSize n)) 1 _ h in
@@ -97,16 +97,12 @@ as-table t h n ws = ap (λ (x : Table). tableText x sheetWord n ws) h
 
 -- ---- what `write_sheet` leaves, over what its calls answer
 
-length-refused : (code len : ℕ) → (code ≡ 0 → ⊥) → lengthIf code len ≡ 0
-length-refused zero len z = absurd (z refl)
-length-refused (suc code) len z = refl
-
 module _ (n : ℕ) (sheet : List ℕ) (count : ℕ) (before : List ℕ) (code : ℕ) (h : code ≡ writeCode n sheet count (length before)) (r : WriteAnswer) where
   pub write-refused : (code ≡ 0 → ⊥) → r ≡ withLength code 0 → Writes n sheet count before before r
   write-refused z a =
       record {
-        answer = rw (← h) (a ∙ ap (λ (l : ℕ). withLength code l) (sym (length-refused code _ z)));
-        bytes = rw (← h) (sym (words-refused code _ before z));
+        answer = rw (← h) (a ∙ ap (λ (l : ℕ). withLength code l) (sym (if-refused code _ _ z)));
+        bytes = rw (← h) (sym (if-refused code _ before z));
       }
 
   pub write-done : (t : Table) → t ≡ sheetTable → (after : List ℕ) (e : ℕ) → code ≡ 0 → Put before 0 (tableText t sheetWord n (take count sheet)) after e → r ≡ withLength 0 e → Writes n sheet count before after r

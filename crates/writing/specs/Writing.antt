@@ -5,7 +5,7 @@ use mathlib.Core.List.{List, _++_}
 use mathlib.Core.Bool.{Bool, cond, not}
 use lib.Dec.{ltb}
 use lib.ListN.{length, take, drop}
-use Rattle.answers.specs.Answers.{refuse, plain, wordsIf}
+use Rattle.answers.specs.Answers.{refuse, plain, ifDone}
 use Rattle.fields.specs.Decimals.{decimal}
 use Rattle.panel.specs.Masks.{panelSize}
 use Rattle.prime.specs.Sheets.{goodSheet}
@@ -42,12 +42,7 @@ writeCode n sheet count room =
 abbrev pub withLength : ℕ → ℕ → WriteAnswer
 withLength code len = record { answer = plain code 0 0 0; length = len }
 
--- done, the length of the text; refused, 0
-abbrev pub lengthIf : ℕ → ℕ → ℕ
-lengthIf zero len = len
-lengthIf (suc code) len = 0
-
 -- what `write_sheet` ensures: done, the text stands at the start and its length is returned; refused, the length is 0 and no byte is changed
 pub record Writes (n : ℕ) (sheet : List ℕ) (count : ℕ) (before after : List ℕ) (r : WriteAnswer) : Type 0 where
-  pub answer : r ≡ withLength (writeCode n sheet count (length before)) (lengthIf (writeCode n sheet count (length before)) (length (sheetText n (take count sheet))))
-  pub bytes : after ≡ wordsIf (writeCode n sheet count (length before)) (written before 0 (sheetText n (take count sheet))) before
+  pub answer : r ≡ withLength (writeCode n sheet count (length before)) (ifDone (writeCode n sheet count (length before)) (length (sheetText n (take count sheet))) 0)
+  pub bytes : after ≡ ifDone (writeCode n sheet count (length before)) (written before 0 (sheetText n (take count sheet))) before

@@ -1,9 +1,10 @@
--- `exports::narrow` meets its contract: each arm returns what the test tells `narrowed` to pick.
+-- `exports::narrow` meets its contract: each arm returns what the test tells `narrowed` to cond.
 use borrow.Author.Tests.{le-leb, lt-leb}
 use Rattle.exports.specs.Sizes.{narrowed}
 use borrow.Author.Needs.{needs}
 use Rattle.exports.proofs.narrow.Statement.{statement}
 use Rattle.exports.proofs.narrow.Tie as tie
+use mathlib.Core.Bool.{cond}
 
 cast-result : tie.Need-cast-result
 cast-result c = search needs

@@ -1,4 +1,4 @@
--- `fields::mark_of` meets its contract: at each arm the keys of the `match`, or its tests, pick the case of `markOf`.
+-- `fields::mark_of` meets its contract: at each arm the keys of the `match`, or its tests, cond the case of `markOf`.
 -- Assumes nothing.
 use Rattle.fields.specs.Bytes.{markOf}
 use borrow.Author.Tests.{le-leb, lt-leb, ne-eqb}
@@ -6,6 +6,7 @@ use mathlib.Core.Logic.{⊎-elim, inl, inr}
 use native.Mathlib.Omega.{arith}
 use Rattle.fields.proofs.mark_of.Statement.{statement}
 use Rattle.fields.proofs.mark_of.Tie as tie
+use mathlib.Core.Bool.{cond}
 
 returns : tie.Need-returns
 unfolding markOf
