@@ -61,7 +61,7 @@ both-taken = record { n = 1; «book_count» = 2; «sheet_count» = 0; struck = 2
 record Contracts : Type 0 where
   k2 : Learned 1 (transitionWord 0 0 ∷ []) 1 1 (left .book) (left .sheet) (left .answer)
   one-to-zero : Learned 1 (transitionWord 1 0 ∷ []) 1 1 (right .book) (right .sheet) (right .answer)
-  k11 : Joined 1 (pieceOf left) (pieceOf right) (7 ∷ 7 ∷ 7 ∷ []) (7 ∷ []) (joined .answer) (joined .book) (joined .sheet)
+  k11 : Joined 1 (pieceOf left) (pieceOf right) (7 ∷ 7 ∷ 7 ∷ []) (7 ∷ []) (joined .book) (joined .sheet) (joined .answer)
   k3 : Learned 1 (transitionWord 0 0 ∷ transitionWord 1 0 ∷ []) 2 1 (whole .book) (whole .sheet) (whole .answer)
   start : Starts 1 (7 ∷ 7 ∷ []) (0 ∷ 0 ∷ []) (record { answer = plain 0 0 0 1; session = freshSession 1 })
   first : Takes (freshSession 1) (7 ∷ 7 ∷ []) (0 ∷ 0 ∷ []) 0 0 (0 ∷ 0 ∷ []) (1024 ∷ 0 ∷ []) (record { answer = done 1 1 1 1; session = one-taken })

@@ -34,7 +34,7 @@ RowStands (learns n words bookRoom sheetRoom a b s) =
 RowStands (takes n oldBook books oldSheet sheets i j a b s) =
     (r : Answer) (book sheet : List ℕ) → Taken false n oldBook books oldSheet sheets i j book sheet r → (r ≡ a) × (book ≡ b) × (sheet ≡ s)
 RowStands (joins n p q oldBook oldSheet a b s) =
-    (r : Answer) (book sheet : List ℕ) → Joined n p q oldBook oldSheet r book sheet → (r ≡ a) × (book ≡ b) × (sheet ≡ s)
+    (r : Answer) (book sheet : List ℕ) → Joined n p q oldBook oldSheet book sheet r → (r ≡ a) × (book ≡ b) × (sheet ≡ s)
 RowStands (applies n sheet sheets x a y) =
     (r : Applied) → r ≡ applyAnswer n sheet sheets x → (r .answer ≡ a) × (r .state ≡ y)
 

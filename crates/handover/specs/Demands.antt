@@ -84,5 +84,5 @@ pub record Divided (ts ps qs : List ℕ) : Type 0 where
 pub record Joins (n : ℕ) (p q : Piece) (o : Left) : Type 0 where
   pub book-before : List ℕ
   pub sheet-before : List ℕ
-  pub contract : Joined n p q book-before sheet-before (o .answer) (o .book) (o .sheet)
+  pub contract : Joined n p q book-before sheet-before (o .book) (o .sheet) (o .answer)
   pub joined : o .answer .code ≡ 0

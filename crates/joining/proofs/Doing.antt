@@ -44,7 +44,7 @@ holds-fills s t tab r room h e = record {
 -- ---- the returns of `join`
 
 module _ (n : ℕ) (a b : Piece) (book sheet : List ℕ) (code : ℕ) (ec : code ≡ joinCode n a b (length book) (length sheet)) where
-  pub join-refused : (code ≡ 0 → ⊥) → (r : Answer) → r ≡ plain code 0 0 0 → Joined n a b book sheet r book sheet
+  pub join-refused : (code ≡ 0 → ⊥) → (r : Answer) → r ≡ plain code 0 0 0 → Joined n a b book sheet book sheet r
   unfolding joinAnswer bookAfter sheetAfter
   join-refused h r er =
       let f : joinCode n a b (length book) (length sheet) ≡ 0 → ⊥ = λ z. h (ec ∙ z) in
@@ -55,7 +55,7 @@ module _ (n : ℕ) (a b : Piece) (book sheet : List ℕ) (code : ℕ) (ec : code
       }
 
   pub join-done : code ≡ 0 → (books sheets : ℕ) (book′ sheet′ : List ℕ) → Fills book′ books (length book) (joinedBook a b) → Fills sheet′ sheets (length sheet) (joinedSheet n a b)
-      → (r : Answer) → r ≡ done books sheets 0 0 → Joined n a b book sheet r book′ sheet′
+      → (r : Answer) → r ≡ done books sheets 0 0 → Joined n a b book sheet book′ sheet′ r
   unfolding joinAnswer bookAfter sheetAfter
   join-done h books sheets book′ sheet′ fb fs r er =
       let z : joinCode n a b (length book) (length sheet) ≡ 0 = sym ec ∙ h in

@@ -15,7 +15,7 @@ use Rattle.joining.proofs.Doing.{sheets-good}
 
 -- any two results that satisfy the contract are equal
 pub joined-unique : (n : ℕ) (a b : Piece) (book sheet : List ℕ) (r q : Answer) (book′ sheet′ book″ sheet″ : List ℕ)
-    → Joined n a b book sheet r book′ sheet′ → Joined n a b book sheet q book″ sheet″ → (r ≡ q) × (book′ ≡ book″) × (sheet′ ≡ sheet″)
+    → Joined n a b book sheet book′ sheet′ r → Joined n a b book sheet book″ sheet″ q → (r ≡ q) × (book′ ≡ book″) × (sheet′ ≡ sheet″)
 joined-unique n a b book sheet r q book′ sheet′ book″ sheet″ x y =
     (x .answer ∙ sym (y .answer), x .book-left ∙ sym (y .book-left), x .sheet-left ∙ sym (y .sheet-left))
 

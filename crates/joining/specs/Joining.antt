@@ -86,7 +86,7 @@ pub record Fills (s : List ℕ) (r room : ℕ) (tab : List ℕ) : Type 0 where
   pub words : s ≡ filled room tab
 
 -- what the call promises: its answer r, and the words of `book` and `sheet` at its end
-pub record Joined (n : ℕ) (a b : Piece) (book sheet : List ℕ) (r : Answer) (book′ sheet′ : List ℕ) : Type 0 where
+pub record Joined (n : ℕ) (a b : Piece) (book sheet book′ sheet′ : List ℕ) (r : Answer) : Type 0 where
   pub answer : r ≡ joinAnswer n a b (length book) (length sheet)
   pub book-left : book′ ≡ bookAfter n a b book sheet
   pub sheet-left : sheet′ ≡ sheetAfter n a b book sheet

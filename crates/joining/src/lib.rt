@@ -39,33 +39,33 @@ fn are_good_sheets(n: u32, a: &[u32], b: &[u32]) -> bool
     }
 }
 
-// The code of two pieces by themselves: the books a and b and the sheets s and t, each with its count.
+// The code of two pieces by themselves: the books and the sheets of a and b, each with its count.
 fn pieces_code(
     n: u32,
-    a: &[u32],
-    ac: usize,
-    s: &[u32],
-    sc: usize,
-    b: &[u32],
-    bc: usize,
-    t: &[u32],
-    tc: usize,
+    a_book: &[u32],
+    a_books: usize,
+    a_sheet: &[u32],
+    a_sheets: usize,
+    b_book: &[u32],
+    b_books: usize,
+    b_sheet: &[u32],
+    b_sheets: usize,
 ) -> u32
-    ensures { λ r. ⌜ r ≡ piecesCode n (piece (now (a .entry)) ac (now (s .entry)) sc) (piece (now (b .entry)) bc (now (t .entry)) tc) 0 ⌝ }
+    ensures { λ r. ⌜ r ≡ piecesCode n (piece (now («a_book» .entry)) «a_books» (now («a_sheet» .entry)) «a_sheets») (piece (now («b_book» .entry)) «b_books» (now («b_sheet» .entry)) «b_sheets») 0 ⌝ }
 {
     if !panel::is_panel_size(n) {
         return 2;
     }
-    if exceeds_slice(a, ac, s, sc) {
+    if exceeds_slice(a_book, a_books, a_sheet, a_sheets) {
         return 3;
     }
-    if exceeds_slice(b, bc, t, tc) {
+    if exceeds_slice(b_book, b_books, b_sheet, b_sheets) {
         return 3;
     }
-    if !are_good_books(n, &a[..ac], &b[..bc]) {
+    if !are_good_books(n, &a_book[..a_books], &b_book[..b_books]) {
         return 4;
     }
-    if !are_good_sheets(n, &s[..sc], &t[..tc]) {
+    if !are_good_sheets(n, &a_sheet[..a_sheets], &b_sheet[..b_sheets]) {
         return 5;
     }
     0
@@ -74,32 +74,42 @@ fn pieces_code(
 // The code of their join, with so much room for the book and for the sheet. Nothing is written.
 fn join_code(
     n: u32,
-    a: &[u32],
-    ac: usize,
-    s: &[u32],
-    sc: usize,
-    b: &[u32],
-    bc: usize,
-    t: &[u32],
-    tc: usize,
+    a_book: &[u32],
+    a_books: usize,
+    a_sheet: &[u32],
+    a_sheets: usize,
+    b_book: &[u32],
+    b_books: usize,
+    b_sheet: &[u32],
+    b_sheets: usize,
     books: usize,
     sheets: usize,
 ) -> u32
-    ensures { λ r. ⌜ r ≡ joinCode n (piece (now (a .entry)) ac (now (s .entry)) sc) (piece (now (b .entry)) bc (now (t .entry)) tc) books sheets ⌝ }
+    ensures { λ r. ⌜ r ≡ joinCode n (piece (now («a_book» .entry)) «a_books» (now («a_sheet» .entry)) «a_sheets») (piece (now («b_book» .entry)) «b_books» (now («b_sheet» .entry)) «b_sheets») books sheets ⌝ }
 {
-    let code = pieces_code(n, a, ac, s, sc, b, bc, t, tc);
+    let code = pieces_code(
+        n,
+        a_book,
+        a_books,
+        a_sheet,
+        a_sheets,
+        b_book,
+        b_books,
+        b_sheet,
+        b_sheets,
+    );
     if code != 0 {
         return code;
     }
-    let left = &a[..ac];
-    let right = &b[..bc];
+    let left = &a_book[..a_books];
+    let right = &b_book[..b_books];
     if book::do_clash(left, right) {
         return 7;
     }
     if books < book::count_union(left, right) {
         return 8;
     }
-    if sheets < walk::count_join(n, &s[..sc], &t[..tc]) {
+    if sheets < walk::count_join(n, &a_sheet[..a_sheets], &b_sheet[..b_sheets]) {
         return 9;
     }
     0
@@ -139,7 +149,7 @@ pub fn join(
     book: &mut [u32],
     sheet: &mut [u32],
 ) -> Answer
-    ensures { λ r. ⌜ Joined n (piece (now («a_book» .entry)) «a_book_count» (now («a_sheet» .entry)) «a_sheet_count») (piece (now («b_book» .entry)) «b_book_count» (now («b_sheet» .entry)) «b_sheet_count») (now (book .entry)) (now (sheet .entry)) r (now (book .exit)) (now (sheet .exit)) ⌝ }
+    ensures { λ r. ⌜ Joined n (piece (now («a_book» .entry)) «a_book_count» (now («a_sheet» .entry)) «a_sheet_count») (piece (now («b_book» .entry)) «b_book_count» (now («b_sheet» .entry)) «b_sheet_count») (now (book .entry)) (now (sheet .entry)) (now (book .exit)) (now (sheet .exit)) r ⌝ }
 {
     let code = join_code(
         n,

@@ -340,7 +340,7 @@ module _ (n : ℕ) (a b : Piece) (bookRoom sheetRoom : ℕ) where
   unfolding joinAnswer
   join-code = picked (joinCode n a b bookRoom sheetRoom) (done (length (joinedBook a b)) (length (joinedSheet n a b)) 0 0) 0 0 0 refl
 
-module _ {n : ℕ} {a b : Piece} {book sheet book′ sheet′ : List ℕ} {r : Answer} (q : Joined n a b book sheet r book′ sheet′) where
+module _ {n : ℕ} {a b : Piece} {book sheet book′ sheet′ : List ℕ} {r : Answer} (q : Joined n a b book sheet book′ sheet′ r) where
   pub join-eight : JoinEight n a b book sheet r
   join-eight = coded (ap (λ (x : Answer). x .code) (q .answer) ∙ join-code n a b (length book) (length sheet)) (join-ladder-8 n a b (length book) (length sheet))
 

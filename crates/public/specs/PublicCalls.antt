@@ -54,7 +54,7 @@ abbrev pub Contract : (c : Call) → Result c → Type 0
 Contract (fresh n sheet) r = Fresh n sheet (r .1) (r .0)
 Contract (take n book books sheet sheets i j) r = Taken false n book books sheet sheets i j (r .1) (r .2) (r .0)
 Contract (learn n words book sheet) r = Learned n words (length book) (length sheet) (r .1) (r .2) (r .0)
-Contract (join n a b book sheet) r = Joined n a b book sheet (r .0) (r .1) (r .2)
+Contract (join n a b book sheet) r = Joined n a b book sheet (r .1) (r .2) (r .0)
 Contract (apply n sheet sheets x) r = r ≡ applyAnswer n sheet sheets x
 Contract (session-start n sheet) r = Starts n sheet (r .1) (r .0)
 Contract (session-take s book sheet i j) r = Takes s book sheet i j (r .1) (r .2) (r .0)
