@@ -5,7 +5,7 @@ use mathlib.Core.List.{List}
 use Prim.Native.Nat.{ℕ, zero, suc, _^_, _≤_, _<_}
 use lib.Dec.{ltb}
 use lib.ListN.{length, take}
-use borrow.Author.Tests.{ltb-false, lt-ltb, le-ltb}
+use borrow.Author.Tests.{ltb-false, lt-ltb, le-ltb, not-false}
 use Rattle.table.specs.Lists.{all, increasing}
 use Rattle.table.proofs.Basics.{and-l}
 use Rattle.panel.specs.Masks.{panelSize}
@@ -16,7 +16,7 @@ use Rattle.answers.specs.declared.Answer.{Answer}
 use Rattle.answers.proofs.Laws.{refuse-none}
 use Rattle.calls.specs.Apply.{applyCode, applyAnswer}
 use Rattle.calls.specs.declared.Applied.{Applied}
-use Rattle.calls.proofs.Codes.{size-of, not-no}
+use Rattle.calls.proofs.Codes.{size-of}
 
 module _ (n : ℕ) (sheet : List ℕ) (sheets x : ℕ) (a : Bool) (ea : a ≡ panelSize n) where
   pub apply-size : a ≡ false → 2 ≡ applyCode n sheet sheets x
@@ -49,7 +49,7 @@ apply-none n sheet sheets x c ec e =
     let a = refuse-none (not (panelSize n)) 1 _ (sym ec ∙ e) in
     let b = refuse-none (ltb (length sheet) sheets) 2 _ (a .1) in
     let d = refuse-none (not (goodSheet n (take sheets sheet))) 4 _ (b .1) in
-    (size-of n (not-no (panelSize n) (a .0)) .1, ltb-false (length sheet) sheets (b .0), and-l (all (validRule n) (take sheets sheet)) (increasing (take sheets sheet) && antichain (take sheets sheet)) (not-no (goodSheet n (take sheets sheet)) (d .0)))
+    (size-of n (not-false (panelSize n) (a .0)) .1, ltb-false (length sheet) sheets (b .0), and-l (all (validRule n) (take sheets sheet)) (increasing (take sheets sheet) && antichain (take sheets sheet)) (not-false (goodSheet n (take sheets sheet)) (d .0)))
 
 both : Answer → ℕ → Applied
 both r y = record { answer = r; state = y }

@@ -7,7 +7,7 @@ use native.Mathlib.Nat.{le-of-suc-le-suc}
 use native.Mathlib.Omega.{arith}
 use lib.Dec.{eqb, ltb}
 use lib.ListN.{length, take, getD}
-use borrow.Author.Tests.{ltb-true, ltb-false, lt-ltb, le-ltb, eqb-true, eq-eqb, ne-eqb}
+use borrow.Author.Tests.{ltb-true, ltb-false, lt-ltb, le-ltb, eqb-true, eq-eqb, ne-eqb, not-false}
 use Rattle.table.proofs.Basics.{and-l, and-r}
 use Rattle.panel.specs.Masks.{panelSize}
 use Rattle.panel.specs.Transitions.{transitionWord, state, next}
@@ -23,11 +23,6 @@ use Rattle.answers.specs.Answers.{refuse}
 use Rattle.answers.proofs.Laws.{refuse-none}
 use Rattle.calls.specs.Fresh.{freshCode}
 use Rattle.calls.specs.Take.{givenCode, bookingCode}
-
--- a test whose negation failed passes
-pub not-no : (b : Bool) → not b ≡ false → b ≡ true
-not-no true p = refl
-not-no false p = sym p
 
 -- ---- n
 
@@ -118,13 +113,13 @@ given-none spoilt n book books sheet sheets i j e =
     let d = refuse-none (not (goodSheet n (take sheets sheet))) 4 _ (c .1) in
     let f = refuse-none (not (ltb i (2 ^ n) && ltb j (2 ^ n))) 5 _ (d .1) in
     let q = or-no (ltb (length book) books) (ltb (length sheet) sheets) (or-no spoilt (ltb (length book) books || ltb (length sheet) sheets) (b .0) .1) in
-    let s = not-no (ltb i (2 ^ n) && ltb j (2 ^ n)) (f .0) in
+    let s = not-false (ltb i (2 ^ n) && ltb j (2 ^ n)) (f .0) in
     record {
-      small = size-of n (not-no (panelSize n) (a .0)) .1;
+      small = size-of n (not-false (panelSize n) (a .0)) .1;
       books-in = ltb-false (length book) books (q .0);
       sheets-in = ltb-false (length sheet) sheets (q .1);
-      good-book = not-no (goodBook n (take books book)) (c .0);
-      good-sheet = not-no (goodSheet n (take sheets sheet)) (d .0);
+      good-book = not-false (goodBook n (take books book)) (c .0);
+      good-sheet = not-false (goodSheet n (take sheets sheet)) (d .0);
       state-lt = ltb-true i (2 ^ n) (and-l (ltb i (2 ^ n)) (ltb j (2 ^ n)) s);
       next-lt = ltb-true j (2 ^ n) (and-r (ltb i (2 ^ n)) (ltb j (2 ^ n)) s);
     }

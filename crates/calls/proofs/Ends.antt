@@ -9,7 +9,7 @@ use lib.Dec.{ltb}
 use lib.Pow.{pow-mono}
 use lib.ListN.{length, take, drop}
 use lib.Seq.{length-take-le}
-use borrow.Author.Tests.{ltb-false, lt-ltb, le-ltb}
+use borrow.Author.Tests.{ltb-false, lt-ltb, le-ltb, not-false}
 use Rattle.table.proofs.Counting.{missing-le}
 use Rattle.table.specs.Surgery.{filled, clearedFrom, Holds}
 use Rattle.table.proofs.Tables.{holds-filled, over-holds, increasing-short}
@@ -31,8 +31,9 @@ use Rattle.answers.specs.Answers.{refuse, plain, done, ifDone}
 use Rattle.answers.specs.declared.Answer.{Answer}
 use Rattle.answers.proofs.Laws.{refuse-none, refuse-first, refuse-after, refuse-both, if-refused, if-done}
 use Rattle.calls.specs.Fresh.{freshCode, freshAnswer, freshWords, Fresh}
-use Rattle.calls.specs.Take.{givenCode, bookingCode, entryCode, takeCode, innerCode, innerAnswer, Ready, Inner, takeAnswer, takeBook, takeWords, Taken}
-use Rattle.calls.proofs.Codes.{not-no, size-of, Lent, given-none, booking-none}
+use Rattle.calls.specs.Take.{givenCode, bookingCode, entryCode, takeCode, innerCode, takeAnswer, takeBook, takeWords, Taken}
+use Rattle.calls.proofs.Codes.{size-of, Lent, given-none, booking-none}
+use Rattle.calls.specs.Inner.{innerAnswer, Ready, Inner}
 
 same-done : {b b′ p p′ q q′ u u′ : ℕ} → b ≡ b′ → p ≡ p′ → q ≡ q′ → u ≡ u′ → done b p q u ≡ done b′ p′ q′ u′
 same-done e0 e1 e2 e3 = λ x. done (e0 x) (e1 x) (e2 x) (e3 x)
@@ -44,7 +45,7 @@ unfolding freshCode
 fresh-none n room e =
     let a = refuse-none (not (panelSize n)) 1 _ e in
     let b = refuse-none (ltb room n) 8 _ (a .1) in
-    (size-of n (not-no (panelSize n) (a .0)) .1, ltb-false room n (b .0))
+    (size-of n (not-false (panelSize n) (a .0)) .1, ltb-false room n (b .0))
 
 module _ (n : ℕ) (s : List ℕ) (c : ℕ) (ec : c ≡ freshCode n (length s)) where
   pub fresh-refused : (c ≡ 0 → ⊥) → (r : Answer) → r ≡ plain c 0 0 0 → Fresh n s s r

@@ -1,3 +1,4 @@
 pub mod Fresh
 pub mod Take
 pub mod Apply
+pub mod Inner

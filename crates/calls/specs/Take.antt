@@ -1,15 +1,15 @@
 -- Take: the answer and every word of the lent book and sheet, for all inputs.
 use mathlib.Core.Path.{_≡_}
-use mathlib.Core.Bool.{Bool, true, false, not, _&&_, _||_}
+use mathlib.Core.Bool.{Bool, not, _&&_, _||_}
 use mathlib.Core.List.{List}
-use Prim.Native.Nat.{ℕ, _^_, _≤_}
+use Prim.Native.Nat.{ℕ, _^_}
 use lib.Dec.{eqb, ltb}
 use lib.ListN.{length, take}
-use Rattle.table.specs.Surgery.{filled, Holds}
+use Rattle.table.specs.Surgery.{filled}
 use Rattle.panel.specs.Masks.{panelSize}
 use Rattle.panel.specs.Transitions.{transitionWord}
 use Rattle.prime.specs.Sheets.{goodSheet, takeSheet, struckCount, addedCount}
-use Rattle.book.specs.Books.{statesUp, goodBook, told, against, withWord}
+use Rattle.book.specs.Books.{goodBook, told, against, withWord}
 use Rattle.answers.specs.Answers.{refuse, plain, done, ifDone}
 use Rattle.answers.specs.declared.Answer.{Answer}
 
@@ -60,33 +60,6 @@ takeBook spoilt n book books sheet sheets i j =
 unfoldable pub takeWords : Bool → ℕ → List ℕ → ℕ → List ℕ → ℕ → ℕ → ℕ → List ℕ
 takeWords spoilt n book books sheet sheets i j =
     ifDone (takeCode spoilt n book books sheet sheets i j) (filled (length sheet) (takeSheet n (take sheets sheet) (transitionWord i j))) sheet
-
--- ---- take where only 9 is left
-
-unfoldable pub innerAnswer : ℕ → ℕ → List ℕ → ℕ → List ℕ → ℕ → Answer
-innerAnswer n t book books sheet sheets =
-    ifDone (innerCode n t sheet sheets)
-    (done (length (withWord t (take books book))) (length (takeSheet n (take sheets sheet) t))
-    (struckCount (take sheets sheet) (takeSheet n (take sheets sheet) t))
-    (addedCount (take sheets sheet) (takeSheet n (take sheets sheet) t)))
-    (plain (innerCode n t sheet sheets) 0 books sheets)
-
--- what such a take needs: a book in order, which does not tell the word and has room for it, and a good sheet
-pub record Ready (n t : ℕ) (book : List ℕ) (books : ℕ) (sheet : List ℕ) (sheets : ℕ) : Type 0 where
-  pub small : n ≤ 10
-  pub books-in : books ≤ length book
-  pub in-order : statesUp (take books book) ≡ true
-  pub untold : told t (take books book) ≡ false
-  pub room : length (withWord t (take books book)) ≤ length book
-  pub sheets-in : sheets ≤ length sheet
-  pub good-sheet : goodSheet n (take sheets sheet) ≡ true
-
--- what such a take does
-pub record Inner (n t : ℕ) (book : List ℕ) (books : ℕ) (sheet : List ℕ) (sheets : ℕ) (book′ sheet′ : List ℕ) (r : Answer) : Type 0 where
-  pub answer : r ≡ innerAnswer n t book books sheet sheets
-  pub kept : (innerCode n t sheet sheets ≡ 0 → ⊥) → (book′ ≡ book) × (sheet′ ≡ sheet)
-  pub booked-in : innerCode n t sheet sheets ≡ 0 → Holds book′ (length (withWord t (take books book))) (length book) (withWord t (take books book))
-  pub taken-in : innerCode n t sheet sheets ≡ 0 → Holds sheet′ (length (takeSheet n (take sheets sheet) t)) (length sheet) (takeSheet n (take sheets sheet) t)
 
 -- what take does: its answer r, and both slices before and after
 pub record Taken (spoilt : Bool) (n : ℕ) (book : List ℕ) (books : ℕ) (sheet : List ℕ) (sheets i j : ℕ) (book′ sheet′ : List ℕ) (r : Answer) : Type 0 where

@@ -10,7 +10,8 @@ ghost use Prim.Native.Nat.{_≤_, _<_};
 ghost use Rattle.book.specs.Books.{statesUp};
 ghost use Rattle.panel.specs.Transitions.{transitionWord};
 ghost use Rattle.calls.specs.Fresh.{freshCode, Fresh};
-ghost use Rattle.calls.specs.Take.{givenCode, bookingCode, entryCode, Ready, Inner, Taken};
+ghost use Rattle.calls.specs.Take.{givenCode, bookingCode, entryCode, Taken};
+ghost use Rattle.calls.specs.Inner.{Ready, Inner};
 ghost use Rattle.calls.specs.Apply.{applyCode, applyAnswer};
 
 // What apply gives: the common numbers, and the state.

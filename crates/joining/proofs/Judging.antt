@@ -12,6 +12,7 @@ use Rattle.book.specs.Books.{goodBook, clash}
 use Rattle.prime.specs.Sheets.{goodSheet}
 use Rattle.answers.specs.Answers.{refuse}
 use Rattle.joining.specs.Joining.{Piece, bookIn, sheetIn, exceeds, joinedBook, joinedSheet, piecesCode, joinCode, GoodPiece, GoodPieces, Joinable}
+use Rattle.answers.proofs.Laws.{refuse-none}
 
 -- ---- counts and size
 
@@ -71,17 +72,13 @@ module _ (n : ℕ) (a b : Piece) (later : ℕ) (x₂ : Bool) (e₂ : x₂ ≡ pa
 
 -- ---- what the code of the pieces says
 
-refuse-zero : (x : Bool) (k later : ℕ) → refuse x (suc k) later ≡ 0 → (x ≡ false) × (later ≡ 0)
-refuse-zero true k later e = absurd (omega (arith, e))
-refuse-zero false k later e = (refl, e)
-
 pub pieces-e : (n : ℕ) (a b : Piece) (later : ℕ) → piecesCode n a b later ≡ 0 → GoodPieces n a b × (later ≡ 0)
 unfolding piecesCode
 pieces-e n a b later e =
-    let p₂ = refuse-zero (not (panelSize n)) 1 _ e in
-    let p₃ = refuse-zero (exceeds a || exceeds b) 2 _ (p₂ .1) in
-    let p₄ = refuse-zero (not (goodBook n (bookIn a) && goodBook n (bookIn b))) 3 _ (p₃ .1) in
-    let p₅ = refuse-zero (not (goodSheet n (sheetIn a) && goodSheet n (sheetIn b))) 4 _ (p₄ .1) in
+    let p₂ = refuse-none (not (panelSize n)) 1 _ e in
+    let p₃ = refuse-none (exceeds a || exceeds b) 2 _ (p₂ .1) in
+    let p₄ = refuse-none (not (goodBook n (bookIn a) && goodBook n (bookIn b))) 3 _ (p₃ .1) in
+    let p₅ = refuse-none (not (goodSheet n (sheetIn a) && goodSheet n (sheetIn b))) 4 _ (p₄ .1) in
     let within = or-false (exceeds a) (exceeds b) (p₃ .0) in
     let books = not-false (goodBook n (bookIn a) && goodBook n (bookIn b)) (p₄ .0) in
     let sheets = not-false (goodSheet n (sheetIn a) && goodSheet n (sheetIn b)) (p₅ .0) in (
@@ -167,9 +164,9 @@ pub joinable-e : (n : ℕ) (a b : Piece) (bookRoom sheetRoom : ℕ) → joinCode
 unfolding joinCode
 joinable-e n a b bookRoom sheetRoom e =
     let p₅ = pieces-e n a b _ e in
-    let p₇ = refuse-zero (clash (bookIn a) (bookIn b)) 6 _ (p₅ .1) in
-    let p₈ = refuse-zero (ltb bookRoom (length (joinedBook a b))) 7 _ (p₇ .1) in
-    let p₉ = refuse-zero (ltb sheetRoom (length (joinedSheet n a b))) 8 _ (p₈ .1) in
+    let p₇ = refuse-none (clash (bookIn a) (bookIn b)) 6 _ (p₅ .1) in
+    let p₈ = refuse-none (ltb bookRoom (length (joinedBook a b))) 7 _ (p₇ .1) in
+    let p₉ = refuse-none (ltb sheetRoom (length (joinedSheet n a b))) 8 _ (p₈ .1) in
     record {
       pieces = p₅ .0;
       agree = p₇ .0;

@@ -25,11 +25,12 @@ use Rattle.book.proofs.Telling.{with-longer, with-good}
 use Rattle.answers.specs.Answers.{refuse, plain, done, ifDone}
 use Rattle.answers.specs.declared.Answer.{Answer}
 use Rattle.answers.proofs.Laws.{refuse-none, if-done}
-use Rattle.calls.specs.Take.{bookingCode, innerCode, innerAnswer, Ready, Inner}
+use Rattle.calls.specs.Take.{bookingCode, innerCode}
 use Rattle.calls.proofs.Codes.{booking-none}
 use Rattle.calls.proofs.Ends.{fits-ten}
-use Rattle.learning.specs.Learn.{Run, going, refused, taken, wordCode, learnStep}
-use Rattle.learning.specs.Running.{runIf, runOf, GoodTables, Fit, Next, WordLearned}
+use Rattle.learning.specs.Learn.{Run, going, refused, taken, wordCode, learnStep, runIf}
+use Rattle.learning.specs.Running.{runOf, GoodTables, Fit, Next, WordLearned}
+use Rattle.calls.specs.Inner.{innerAnswer, Ready, Inner}
 
 state-word-few : (t : ℕ) → state t < 1024 → t < 1048576
 unfolding state
@@ -37,7 +38,7 @@ state-word-few t l = omega arith
 
 -- ---- runs that answers stand for
 
-run-refused : (c : ℕ) (r : Run) (p : ℕ) → (c ≡ 0 → ⊥) → runIf c r p ≡ refused c p
+pub run-refused : (c : ℕ) (r : Run) (p : ℕ) → (c ≡ 0 → ⊥) → runIf c r p ≡ refused c p
 run-refused zero r p f = absurd (f refl)
 run-refused (suc c) r p f = refl
 

@@ -2,7 +2,7 @@
 use mathlib.Core.Path.{_≡_}
 use mathlib.Core.Bool.{Bool, true, false, not, cond}
 use mathlib.Core.List.{List, [], _∷_}
-use Prim.Native.Nat.{ℕ, _+_}
+use Prim.Native.Nat.{ℕ, _+_, zero, suc}
 use lib.Dec.{eqb, ltb}
 use lib.ListN.{length, replicate}
 use Rattle.table.specs.Surgery.{filled, oneMoreIf}
@@ -59,6 +59,11 @@ learnEnd n (going b s x y) = cond (ltb (reproduced n s b) (length b)) (refused 1
 
 unfoldable pub learnRun : ℕ → ℕ → ℕ → List ℕ → Run
 learnRun n bookRoom sheetRoom ts = learnEnd n (learnWords n bookRoom sheetRoom 0 ts (learnStart n sheetRoom))
+
+-- the run where the code is 0, else the refusal with the code and a place
+abbrev pub runIf : ℕ → Run → ℕ → Run
+runIf zero r p = r
+runIf (suc c) r p = refused (suc c) p
 
 -- ---- what a run comes to
 

@@ -8,11 +8,7 @@ use Rattle.prime.specs.Sheets.{goodSheet}
 use Rattle.book.specs.Books.{goodBook}
 use Rattle.answers.specs.Answers.{plain, done}
 use Rattle.answers.specs.declared.Answer.{Answer}
-use Rattle.learning.specs.Learn.{Run, going, refused, wordCode, learnStep, learnWords, learnStart, learnEnd, runAnswer, runBook, runSheet}
-
-abbrev pub runIf : ℕ → Run → ℕ → Run
-runIf zero r p = r
-runIf (suc c) r p = refused (suc c) p
+use Rattle.learning.specs.Learn.{Run, runIf, going, refused, wordCode, learnStep, learnWords, learnStart, learnEnd, runAnswer, runBook, runSheet}
 
 -- the run that an answer and the words in use stand for
 unfoldable pub runOf : Answer → List ℕ → List ℕ → Run

@@ -19,8 +19,7 @@ use Rattle.headers.specs.declared.Verdict.the-variants.{Good, Bad}
 use Rattle.headers.proofs.PlaceLaws.{bad-iff-place}
 use Rattle.recording.specs.Rows.{textWords}
 use Rattle.recording.specs.Reading.{refusal, answerFor, readAnswer, readList}
-use Rattle.learning.specs.Learn.{Run, going, refused, reproduced, learnEnd, learnRun}
-use Rattle.learning.specs.Running.{runIf}
+use Rattle.learning.specs.Learn.{Run, going, refused, reproduced, learnEnd, learnRun, runIf}
 use Rattle.learning.proofs.Ways.{Opening, two, nine-at-once, opened, Way, six, passed-over, seven, eight, nine, taken-up, run-keeps}
 use Rattle.writing.specs.SheetText.{sheetText}
 use Rattle.writing.specs.Writing.{textLength}

@@ -9,8 +9,7 @@ use lib.Dec.{leb}
 use lib.ListN.{length, take}
 use borrow.Author.Tests.{le-ltb, leb-true}
 use Rattle.recording.specs.Reading.{readAnswer, readList}
-use Rattle.learning.specs.Learn.{Run, going, refused}
-use Rattle.learning.specs.Running.{runIf}
+use Rattle.learning.specs.Learn.{Run, going, refused, runIf}
 use Rattle.writing.specs.SheetText.{sheetText}
 use Rattle.writing.specs.Writing.{written, countLength, textLength}
 use Rattle.writing.proofs.TextLaws.{sheet-length}

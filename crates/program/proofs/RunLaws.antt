@@ -18,8 +18,7 @@ use Rattle.headers.specs.declared.Verdict.the-variants.{Good, Bad}
 use Rattle.recording.specs.Rows.{textWords}
 use Rattle.recording.specs.Reading.{refusal, answerFor, readAnswer, readList, Reads}
 use Rattle.recording.specs.declared.ReadAnswer.{ReadAnswer}
-use Rattle.learning.specs.Learn.{Run, going, refused, learnRun, runAnswer, runSheet, Learned}
-use Rattle.learning.specs.Running.{runIf}
+use Rattle.learning.specs.Learn.{Run, going, refused, learnRun, runAnswer, runSheet, Learned, runIf}
 use Rattle.writing.specs.SheetText.{sheetText}
 use Rattle.writing.specs.Writing.{written, Put, writeCode, Writes}
 use Rattle.writing.specs.declared.WriteAnswer.{WriteAnswer}
@@ -27,11 +26,7 @@ use Rattle.program.specs.Program.{refusalLine, ifRoom, tooLong, readingC
 use Rattle.program.proofs.LineLaws.{room-yes}
 use Rattle.program.proofs.LearnLaws.{Writable, learn-writable}
 use Rattle.answers.proofs.Laws.{if-refused}
-
--- a code that is not 0
-run-refused : (c : ℕ) (r : Run) (p : ℕ) → (c ≡ 0 → ⊥) → runIf c r p ≡ refused c p
-run-refused zero r p f = absurd (f refl)
-run-refused (suc c) r p f = refl
+use Rattle.learning.proofs.Words.{run-refused}
 
 -- ---- writing what was learned
 

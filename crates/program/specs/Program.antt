@@ -8,8 +8,7 @@ use lib.ListN.{length, take}
 use Rattle.answers.specs.Answers.{refuse, ifDone}
 use Rattle.fields.specs.Decimals.{decimal}
 use Rattle.recording.specs.Reading.{readAnswer, readList}
-use Rattle.learning.specs.Learn.{Run, going, refused, learnRun, runBook, runSheet}
-use Rattle.learning.specs.Running.{runIf}
+use Rattle.learning.specs.Learn.{Run, going, refused, learnRun, runBook, runSheet, runIf}
 use Rattle.writing.specs.TableText.{headerText}
 use Rattle.writing.specs.SheetText.{sheetText}
 use Rattle.writing.specs.Writing.{written}

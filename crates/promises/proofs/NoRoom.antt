@@ -7,7 +7,7 @@ use Prim.Native.Nat.{ℕ, zero, suc, _^_, _≤_, _<_}
 use native.Mathlib.Omega.{arith}
 use lib.Dec.{ltb, leb, eqb}
 use lib.ListN.{length, take}
-use borrow.Author.Tests.{ltb-true, ltb-false, lt-ltb, le-ltb, leb-true, leb-false, eqb-true, eqb-false}
+use borrow.Author.Tests.{ltb-true, ltb-false, lt-ltb, le-ltb, leb-true, leb-false, eqb-true, eqb-false, not-false}
 use Rattle.panel.specs.Masks.{panelSize}
 use Rattle.panel.specs.Transitions.{transitionWord}
 use Rattle.prime.specs.Sheets.{goodSheet, freshSheet, takeSheet, struckCount, addedCount}
@@ -70,10 +70,6 @@ most : (b : Bool) (c later m : ℕ) → c ≤ m → later ≤ m → refuse b c l
 most true c later m h k = h
 most false c later m h k = k
 
-not-no : (b : Bool) → not b ≡ false → b ≡ true
-not-no true e = refl
-not-no false e = sym e
-
 -- the code of an answer that a code picks
 picked : (c : ℕ) (a : Answer) (p b s : ℕ) → a .code ≡ 0 → (ifDone c a (plain c p b s)) .code ≡ c
 picked zero a p b s e = e
@@ -90,7 +86,7 @@ unfolding freshCode
 fresh-ladder n room =
     let asks = rung (not (panelSize n)) 2 (refuse (ltb room n) 9 0) 9 (λ q. omega (arith, q)) in
     let full = exceeded room n 9 0 (λ q. omega (arith, q)) in (
-      λ e. (not-no (panelSize n) (asks .0 e .0), omega (arith, full .0 (asks .0 e .1), fresh-length n)),
+      λ e. (not-false (panelSize n) (asks .0 e .0), omega (arith, full .0 (asks .0 e .1), fresh-length n)),
       λ k. asks .1 (ap not (k .0), full .1 (omega (arith, k .1, fresh-length n))),
     )
 
@@ -387,7 +383,7 @@ module _ (n : ℕ) (sheet : List ℕ) (count room : ℕ) where
             let f = two .0 e in
             let g = three .0 (f .1) in
             let h = five .0 (g .1) in
-            (not-no (panelSize n) (f .0), ltb-false (length sheet) count (g .0), not-no (goodSheet n s) (h .0), full .0 (h .1)),
+            (not-false (panelSize n) (f .0), ltb-false (length sheet) count (g .0), not-false (goodSheet n s) (h .0), full .0 (h .1)),
         λ k. two .1 (ap not (k .0), three .1 (le-ltb (length sheet) count (k .1), five .1 (ap not (k .2), full .1 (k .3)))),
       )
 

@@ -22,8 +22,7 @@ use Rattle.headers.proofs.PlaceLaws.{bad-iff-place}
 use Rattle.recording.specs.Rows.{textWords}
 use Rattle.recording.specs.Reading.{refusal, answerFor, listFor, readAnswer, readList}
 use Rattle.recording.proofs.WordLaws.{read-size, read-valid}
-use Rattle.learning.specs.Learn.{Run, going, refused, learnRun, runAnswer, runBook, runSheet}
-use Rattle.learning.specs.Running.{runIf}
+use Rattle.learning.specs.Learn.{Run, going, refused, learnRun, runAnswer, runBook, runSheet, runIf}
 use Rattle.writing.specs.SheetText.{sheetText}
 use Rattle.writing.specs.Writing.{written}
 use Rattle.program.specs.Program.{refusalLine, ifRoom, tooLong, readingCode, readingPlace, learnedRun, runText, printed, Runs}

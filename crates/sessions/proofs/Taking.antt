@@ -16,10 +16,12 @@ use Rattle.sheet.specs.Taking.{tallyOf}
 use Rattle.answers.specs.Answers.{plain, done, ifDone}
 use Rattle.answers.specs.declared.Answer.{Answer}
 use Rattle.answers.proofs.Laws.{refuse-none, refuse-both, if-done}
-use Rattle.calls.specs.Take.{givenCode, entryCode, takeCode, takeAnswer, Ready}
+use Rattle.calls.specs.Take.{givenCode, entryCode, takeCode, takeAnswer}
 use Rattle.calls.proofs.Ends.{entry-ready, count-is, added-few, sheets-few}
 use Rattle.sessions.specs.declared.Session.{Session}
 use Rattle.sessions.specs.Sessions.{totalsFit, sessionAnswer}
+use borrow.Author.Tests.{not-false}
+use Rattle.calls.specs.Inner.{Ready}
 
 -- a take that is not refused was not spoilt
 lent-unspoilt : (spoilt : Bool) (n : ℕ) (book : List ℕ) (books : ℕ) (sheet : List ℕ) (sheets i j : ℕ) → givenCode spoilt n book books sheet sheets i j ≡ 0 → spoilt ≡ false
@@ -62,11 +64,7 @@ module _ (s : Session) (book sheet : List ℕ) (i j : ℕ) where
 
     pub totals-fitted : totalsFit s ≡ true
     unfolding entryCode
-    totals-fitted = not-no (totalsFit s) (lent-unspoilt (not (totalsFit s)) (s .n) book (s .«book_count») sheet (s .«sheet_count») i j (refuse-both (givenCode (not (totalsFit s)) (s .n) book (s .«book_count») sheet (s .«sheet_count») i j) _ entry-zero .0))
-      where
-        not-no : (b : Bool) → not b ≡ false → b ≡ true
-        not-no true p = refl
-        not-no false p = sym p
+    totals-fitted = not-false (totalsFit s) (lent-unspoilt (not (totalsFit s)) (s .n) book (s .«book_count») sheet (s .«sheet_count») i j (refuse-both (givenCode (not (totalsFit s)) (s .n) book (s .«book_count») sheet (s .«sheet_count») i j) _ entry-zero .0))
 
     ready : Ready (s .n) (transitionWord i j) book (s .«book_count») sheet (s .«sheet_count»)
     ready = entry-ready (not (totalsFit s)) (s .n) book (s .«book_count») sheet (s .«sheet_count») i j entry refl entry-zero (transitionWord i j) refl

@@ -10,10 +10,16 @@ returns : tie.Need-returns
 returns c = rw (c .before .before .before .before .before .n .given .1, c .before .before .m .given .1) (ap Value (omega arith))
 
 returns-2 : tie.Need-returns-2
-returns-2 c = rw (c .before .before .before .before .before .before .before .n .given .1, c .before .before .before .before .m .given .1) (ap Value (omega arith))
+returns-2 c =
+    let at-m = c .before .before .before .before in
+    let at-n = at-m .before .before .before in
+    rw (at-n .n .given .1, at-m .m .given .1) (ap Value (omega arith))
 
 returns-3 : tie.Need-returns-3
-returns-3 c = rw (c .before .before .before .before .before .before .before .n .given .1, c .before .before .before .before .m .given .1) (ap Value (omega arith))
+returns-3 c =
+    let at-m = c .before .before .before .before in
+    let at-n = at-m .before .before .before in
+    rw (at-n .n .given .1, at-m .m .given .1) (ap Value (omega arith))
 
 pub digit-spec : {M : Type 1} → statement M
 digit-spec =

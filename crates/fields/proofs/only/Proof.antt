@@ -9,7 +9,12 @@ field-at-requires-2 : tie.Need-field-at-requires-2
 field-at-requires-2 c κs = c .field-at .ensures .end-in
 
 returns : tie.Need-returns
-returns c = only-more (now (c .before .before .before .before .before .args .s)) (c .before .before .before .field-at .result) (c .before .before .before .field-at .ensures) (c .before .before .field-at2 .result) (c .before .before .field-at2 .ensures) (c .before .if1 .taken)
+returns c =
+    let at-if1 = c .before in
+    let at-field-at2 = at-if1 .before in
+    let at-field-at = at-field-at2 .before in
+    let start = at-field-at .before .before in
+    only-more (now (start .args .s)) (at-field-at .field-at .result) (at-field-at .field-at .ensures) (at-field-at2 .field-at2 .result) (at-field-at2 .field-at2 .ensures) (at-if1 .if1 .taken)
 
 sub-result : tie.Need-sub-result
 sub-result c = span-in _ _ _ (c .before .before .field-at .ensures)
@@ -21,7 +26,12 @@ part-result-end : tie.Need-part-result-end
 part-result-end c = c .before .before .field-at .ensures .end-in
 
 returns-2 : tie.Need-returns-2
-returns-2 c = only-one (now (c .before .before .before .before .before .args .s)) (c .before .before .before .field-at .result) (c .before .before .before .field-at .ensures) (c .before .before .field-at2 .result) (c .before .before .field-at2 .ensures) (c .before .if1 .left)
+returns-2 c =
+    let at-if1 = c .before in
+    let at-field-at2 = at-if1 .before in
+    let at-field-at = at-field-at2 .before in
+    let start = at-field-at .before .before in
+    only-one (now (start .args .s)) (at-field-at .field-at .result) (at-field-at .field-at .ensures) (at-field-at2 .field-at2 .result) (at-field-at2 .field-at2 .ensures) (at-if1 .if1 .left)
 
 pub only-spec : {M : Type 1} → statement M
 only-spec =

@@ -26,7 +26,10 @@ shared-slice-read-near-rule : tie.Need-shared-slice-read-near-rule Inv-loop μ-l
 shared-slice-read-near-rule c = search needs
 
 near-rule-requires : tie.Need-near-rule-requires Inv-loop μ-loop
-near-rule-requires c κs = in-head _ (now (c .before .before .before .before .args .part)) _ (c .before .before .before .before .pre) (c .before .loop-test .taken)
+near-rule-requires c κs =
+    let at-loop-test = c .before in
+    let start = at-loop-test .before .before .before in
+    in-head _ (now (start .args .part)) _ (start .pre) (at-loop-test .loop-test .taken)
 
 add-k : tie.Need-add-k Inv-loop μ-loop
 add-k c = search needs

@@ -14,7 +14,10 @@ same-length : tie.Need-same-length
 same-length c = search needs
 
 returns : tie.Need-returns
-returns c = holds-fills _ _ _ _ _ (c .before .before .before .before .before .before .write-union .ensures .0) (c .before .before .clear-from .ensures)
+returns c =
+    let at-clear-from = c .before .before in
+    let at-write-union = at-clear-from .before .before .before .before in
+    holds-fills _ _ _ _ _ (at-write-union .write-union .ensures .0) (at-clear-from .clear-from .ensures)
 
 pub fill-book-spec : {M : Type 1} → statement M
 fill-book-spec = tie.close (tie.spec write-union-requires clear-from-requires same-length returns)

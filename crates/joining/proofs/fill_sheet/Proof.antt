@@ -14,7 +14,10 @@ same-length : tie.Need-same-length
 same-length c = search needs
 
 returns : tie.Need-returns
-returns c = holds-fills _ _ _ _ _ (c .before .before .before .before .before .before .write-join .ensures .holds) (c .before .before .clear-from .ensures)
+returns c =
+    let at-clear-from = c .before .before in
+    let at-write-join = at-clear-from .before .before .before .before in
+    holds-fills _ _ _ _ _ (at-write-join .write-join .ensures .holds) (at-clear-from .clear-from .ensures)
 
 pub fill-sheet-spec : {M : Type 1} → statement M
 fill-sheet-spec = tie.close (tie.spec write-join-requires clear-from-requires same-length returns)

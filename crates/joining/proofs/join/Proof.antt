@@ -26,13 +26,22 @@ fill-book-requires : tie.Need-fill-book-requires
 fill-book-requires c κs = book-ready _ _ _ _ _ (joinable-e _ _ _ _ _ (sym (c .before .before .before .before .join-code .ensures) ∙ c .before .before .before .if1 .left))
 
 slice-aggregate-s : tie.Need-slice-aggregate-s
-slice-aggregate-s c = sym (length-take-le _ _ (joinable-e _ _ _ _ _ (sym (c .before .before .before .before .before .before .before .before .join-code .ensures) ∙ c .before .before .before .before .before .before .before .if1 .left) .pieces .left .sheet-in))
+slice-aggregate-s c =
+    let at-if1 = c .before .before .before .before .before .before .before in
+    let at-join-code = at-if1 .before in
+    sym (length-take-le _ _ (joinable-e _ _ _ _ _ (sym (at-join-code .join-code .ensures) ∙ at-if1 .if1 .left) .pieces .left .sheet-in))
 
 slice-aggregate-t : tie.Need-slice-aggregate-t
-slice-aggregate-t c = sym (length-take-le _ _ (joinable-e _ _ _ _ _ (sym (c .before .before .before .before .before .before .before .before .before .join-code .ensures) ∙ c .before .before .before .before .before .before .before .before .if1 .left) .pieces .right .sheet-in))
+slice-aggregate-t c =
+    let at-if1 = c .before .before .before .before .before .before .before .before in
+    let at-join-code = at-if1 .before in
+    sym (length-take-le _ _ (joinable-e _ _ _ _ _ (sym (at-join-code .join-code .ensures) ∙ at-if1 .if1 .left) .pieces .right .sheet-in))
 
 fill-sheet-requires : tie.Need-fill-sheet-requires
-fill-sheet-requires c κs = sheet-ready _ _ _ _ _ (joinable-e _ _ _ _ _ (sym (c .before .before .before .before .before .before .before .before .before .before .join-code .ensures) ∙ c .before .before .before .before .before .before .before .before .before .if1 .left))
+fill-sheet-requires c κs =
+    let at-if1 = c .before .before .before .before .before .before .before .before .before in
+    let at-join-code = at-if1 .before in
+    sheet-ready _ _ _ _ _ (joinable-e _ _ _ _ _ (sym (at-join-code .join-code .ensures) ∙ at-if1 .if1 .left))
 
 done-answer-requires : tie.Need-done-answer-requires
 done-answer-requires c κs = search needs
@@ -44,7 +53,12 @@ same-length-2 : tie.Need-same-length-2
 same-length-2 c = search needs
 
 returns-2 : tie.Need-returns-2
-returns-2 c = join-done _ _ _ _ _ _ (c .before .before .before .before .before .before .before .before .before .before .before .before .before .before .join-code .ensures) (c .before .before .before .before .before .before .before .before .before .before .before .before .before .if1 .left) _ _ _ _ (c .before .before .before .before .before .before .before .before .before .fill-book .ensures) (c .before .before .before .fill-sheet .ensures) _ (c .done-answer .ensures)
+returns-2 c =
+    let at-fill-sheet = c .before .before .before in
+    let at-fill-book = at-fill-sheet .before .before .before .before .before .before in
+    let at-if1 = at-fill-book .before .before .before .before in
+    let at-join-code = at-if1 .before in
+    join-done _ _ _ _ _ _ (at-join-code .join-code .ensures) (at-if1 .if1 .left) _ _ _ _ (at-fill-book .fill-book .ensures) (at-fill-sheet .fill-sheet .ensures) _ (c .done-answer .ensures)
 
 pub join-spec : {M : Type 1} → statement M
 join-spec =

@@ -35,7 +35,13 @@ next-of-requires : tie.Need-next-of-requires Inv-loop μ-loop
 next-of-requires c κs = search needs
 
 returns : tie.Need-returns Inv-loop μ-loop
-returns c = (sym (c .before .before .before .before .before .before .loop .inv .1 ∙ reproduced-not _ _ _ _ (c .before .before .before .before .before .loop-test .taken) _ refl _ _ _ (c .before .before .before .state-of .ensures) (c .before .before .apply-rules .ensures) (c .before .next-of .ensures) (c .if1 .taken)), c .before .before .before .before .before .before .loop .inv .0)
+returns c =
+    let at-next-of = c .before in
+    let at-apply-rules = at-next-of .before in
+    let at-state-of = at-apply-rules .before in
+    let at-loop-test = at-state-of .before .before in
+    let at-loop = at-loop-test .before in
+    (sym (at-loop .loop .inv .1 ∙ reproduced-not _ _ _ _ (at-loop-test .loop-test .taken) _ refl _ _ _ (at-state-of .state-of .ensures) (at-apply-rules .apply-rules .ensures) (at-next-of .next-of .ensures) (c .if1 .taken)), at-loop .loop .inv .0)
 
 add-k : tie.Need-add-k Inv-loop μ-loop
 add-k c = search needs
@@ -44,7 +50,13 @@ loop-less : tie.Need-loop-less Inv-loop μ-loop
 loop-less c = search needs
 
 loop-again : tie.Need-loop-again Inv-loop μ-loop
-loop-again c = (omega arith, c .before .before .before .before .before .before .loop .inv .1 ∙ reproduced-more _ _ _ _ (c .before .before .before .before .before .loop-test .taken) _ refl _ _ _ (c .before .before .before .state-of .ensures) (c .before .before .apply-rules .ensures) (c .before .next-of .ensures) (c .if1 .left))
+loop-again c =
+    let at-next-of = c .before in
+    let at-apply-rules = at-next-of .before in
+    let at-state-of = at-apply-rules .before in
+    let at-loop-test = at-state-of .before .before in
+    let at-loop = at-loop-test .before in
+    (omega arith, at-loop .loop .inv .1 ∙ reproduced-more _ _ _ _ (at-loop-test .loop-test .taken) _ refl _ _ _ (at-state-of .state-of .ensures) (at-apply-rules .apply-rules .ensures) (at-next-of .next-of .ensures) (c .if1 .left))
 
 returns-2 : tie.Need-returns-2 Inv-loop μ-loop
 returns-2 c = (sym (c .before .loop .inv .1 ∙ reproduced-end _ _ _ _ (c .loop-test .left)), c .before .loop .inv .0)

@@ -22,7 +22,11 @@ same-length-2 : tie.Need-same-length-2
 same-length-2 c = search needs
 
 returns : tie.Need-returns
-returns c = learn-done _ _ _ _ _ _ _ _ _ _ _ _ (search needs) (search needs) (search needs) (c .before .before .before .before .before .before .before .before .before .before .before .before .before .before .before .before .learn-start .ensures) (c .before .before .before .before .before .before .before .before .before .before .before .learn-words .ensures) (c .before .before .before .before .learn-end .ensures)
+returns c =
+    let at-learn-end = c .before .before .before .before in
+    let at-learn-words = at-learn-end .before .before .before .before .before .before .before in
+    let at-learn-start = at-learn-words .before .before .before .before .before in
+    learn-done _ _ _ _ _ _ _ _ _ _ _ _ (search needs) (search needs) (search needs) (at-learn-start .learn-start .ensures) (at-learn-words .learn-words .ensures) (at-learn-end .learn-end .ensures)
 
 pub learn-spec : {M : Type 1} → statement M
 learn-spec =

@@ -25,7 +25,11 @@ same-length : tie.Need-same-length
 same-length c = search needs
 
 returns-2 : tie.Need-returns-2
-returns-2 c = begun-done _ _ _ (c .before .before .before .before .before .before .fresh-code .ensures) _ (c .before .before .before .before .before .if1 .left) _ (c .before .before .before .write-fresh .ensures) (c .done-answer .ensures)
+returns-2 c =
+    let at-write-fresh = c .before .before .before in
+    let at-if1 = at-write-fresh .before .before in
+    let at-fresh-code = at-if1 .before in
+    begun-done _ _ _ (at-fresh-code .fresh-code .ensures) _ (at-if1 .if1 .left) _ (at-write-fresh .write-fresh .ensures) (c .done-answer .ensures)
 
 pub learn-start-spec : {M : Type 1} → statement M
 learn-start-spec =

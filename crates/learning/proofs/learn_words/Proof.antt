@@ -33,7 +33,11 @@ loop-less : tie.Need-loop-less Inv-loop μ-loop
 loop-less c = search needs
 
 loop-again : tie.Need-loop-again Inv-loop μ-loop
-loop-again c = (omega arith, learning-more _ _ _ _ _ _ _ _ _ (c .before .before .before .before .before .before .before .before .before .loop .inv .1) (c .before .before .before .before .before .before .before .before .loop-test .taken) _ _ _ (search needs) (search needs) (c .before .before .before .before .learn-word .ensures))
+loop-again c =
+    let at-learn-word = c .before .before .before .before in
+    let at-loop-test = at-learn-word .before .before .before .before in
+    let at-loop = at-loop-test .before in
+    (omega arith, learning-more _ _ _ _ _ _ _ _ _ (at-loop .loop .inv .1) (at-loop-test .loop-test .taken) _ _ _ (search needs) (search needs) (at-learn-word .learn-word .ensures))
 
 same-length : tie.Need-same-length Inv-loop μ-loop
 same-length c = c .before .loop .inv .1 .book-room

@@ -11,11 +11,19 @@ returns c = rw (sym (c .before .same-bytes .ensures) ∙ c .if1 .taken)
 
 returns-2 : tie.Need-returns-2
 unfolding typedOf
-returns-2 c = rw (sym (c .before .before .before .before .same-bytes .ensures) ∙ c .before .before .before .if1 .left, sym (c .before .same-bytes2 .ensures) ∙ c .if2 .taken)
+returns-2 c =
+    let at-same-bytes2 = c .before in
+    let at-if1 = at-same-bytes2 .before .before in
+    let at-same-bytes = at-if1 .before in
+    rw (sym (at-same-bytes .same-bytes .ensures) ∙ at-if1 .if1 .left, sym (at-same-bytes2 .same-bytes2 .ensures) ∙ c .if2 .taken)
 
 returns-3 : tie.Need-returns-3
 unfolding typedOf
-returns-3 c = rw (sym (c .before .before .before .before .same-bytes .ensures) ∙ c .before .before .before .if1 .left, sym (c .before .same-bytes2 .ensures) ∙ c .if2 .left)
+returns-3 c =
+    let at-same-bytes2 = c .before in
+    let at-if1 = at-same-bytes2 .before .before in
+    let at-same-bytes = at-if1 .before in
+    rw (sym (at-same-bytes .same-bytes .ensures) ∙ at-if1 .if1 .left, sym (at-same-bytes2 .same-bytes2 .ensures) ∙ c .if2 .left)
 
 pub type-line-spec : {M : Type 1} → statement M
 type-line-spec =

@@ -17,7 +17,12 @@ is-on-requires-2 : tie.Need-is-on-requires-2
 is-on-requires-2 c κs = search needs
 
 returns : tie.Need-returns
-returns c = rests-then _ _ _ _ (c .before .before .before .before .observed-in .ensures) (c .before .before .before .is-on .ensures) (c .before .before .if1 .taken) _ _ (c .before .next-of .ensures) (c .is-on2 .ensures)
+returns c =
+    let at-next-of = c .before in
+    let at-if1 = at-next-of .before in
+    let at-is-on = at-if1 .before in
+    let at-observed-in = at-is-on .before in
+    rests-then _ _ _ _ (at-observed-in .observed-in .ensures) (at-is-on .is-on .ensures) (at-if1 .if1 .taken) _ _ (at-next-of .next-of .ensures) (c .is-on2 .ensures)
 
 returns-2 : tie.Need-returns-2
 returns-2 c = rests-else _ _ _ _ (c .before .before .observed-in .ensures) (c .before .is-on .ensures) (c .if1 .left)

@@ -20,10 +20,18 @@ must-off-requires : tie.Need-must-off-requires
 must-off-requires c κs = search needs
 
 sub-result-2 : tie.Need-sub-result-2
-sub-result-2 c = free-room _ _ _ _ _ _ (c .before .before .before .pre .0) (c .before .before .before .pre .1) (c .before .before .power .ensures .0) (c .before .must-on .ensures) (c .must-off .ensures) refl .1
+sub-result-2 c =
+    let at-must-on = c .before in
+    let at-power = at-must-on .before in
+    let start = at-power .before in
+    free-room _ _ _ _ _ _ (start .pre .0) (start .pre .1) (at-power .power .ensures .0) (at-must-on .must-on .ensures) (c .must-off .ensures) refl .1
 
 returns : tie.Need-returns
-returns c = free-bits _ _ _ _ _ _ (c .before .before .before .pre .0) (c .before .before .before .pre .1) (c .before .before .power .ensures .0) (c .before .must-on .ensures) (c .must-off .ensures) refl
+returns c =
+    let at-must-on = c .before in
+    let at-power = at-must-on .before in
+    let start = at-power .before in
+    free-bits _ _ _ _ _ _ (start .pre .0) (start .pre .1) (at-power .power .ensures .0) (at-must-on .must-on .ensures) (c .must-off .ensures) refl
 
 pub free-relays-spec : {M : Type 1} → statement M
 free-relays-spec =

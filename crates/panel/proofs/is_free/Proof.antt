@@ -20,7 +20,12 @@ returns : tie.Need-returns
 returns c = free-then _ _ _ _ (c .before .before .must-on .ensures) (c .before .is-on .ensures) (c .if1 .taken)
 
 returns-2 : tie.Need-returns-2
-returns-2 c = free-else _ _ _ _ (c .before .before .before .before .must-on .ensures) (c .before .before .before .is-on .ensures) (c .before .before .if1 .left) _ _ (c .before .must-off .ensures) (c .is-on2 .ensures)
+returns-2 c =
+    let at-must-off = c .before in
+    let at-if1 = at-must-off .before in
+    let at-is-on = at-if1 .before in
+    let at-must-on = at-is-on .before in
+    free-else _ _ _ _ (at-must-on .must-on .ensures) (at-is-on .is-on .ensures) (at-if1 .if1 .left) _ _ (at-must-off .must-off .ensures) (c .is-on2 .ensures)
 
 pub is-free-spec : {M : Type 1} → statement M
 is-free-spec =

@@ -17,7 +17,12 @@ covers-state-requires : tie.Need-covers-state-requires
 covers-state-requires c κs = search needs
 
 returns : tie.Need-returns
-returns c = spared-then _ _ _ _ (c .before .before .before .before .head-of .ensures) (c .before .before .before .does-rest .ensures) (c .before .before .if1 .taken) _ _ (c .before .state-of .ensures) (c .covers-state .ensures)
+returns c =
+    let at-state-of = c .before in
+    let at-if1 = at-state-of .before in
+    let at-does-rest = at-if1 .before in
+    let at-head-of = at-does-rest .before in
+    spared-then _ _ _ _ (at-head-of .head-of .ensures) (at-does-rest .does-rest .ensures) (at-if1 .if1 .taken) _ _ (at-state-of .state-of .ensures) (c .covers-state .ensures)
 
 returns-2 : tie.Need-returns-2
 returns-2 c = spared-else _ _ _ _ (c .before .before .head-of .ensures) (c .before .does-rest .ensures) (c .if1 .left)

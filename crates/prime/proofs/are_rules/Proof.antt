@@ -32,13 +32,26 @@ is-rule-requires : tie.Need-is-rule-requires Inv-loop μ-loop
 is-rule-requires c κs = search needs
 
 returns : tie.Need-returns Inv-loop μ-loop
-returns c = sym (c .before .before .before .before .loop .inv .1 ∙ rises-fail _ _ _ _ _ (c .before .before .before .loop-test .taken) (sym (c .before .is-rule .ensures) ∙ not-true _ (c .if1 .taken)))
+returns c =
+    let at-is-rule = c .before in
+    let at-loop-test = at-is-rule .before .before in
+    let at-loop = at-loop-test .before in
+    sym (at-loop .loop .inv .1 ∙ rises-fail _ _ _ _ _ (at-loop-test .loop-test .taken) (sym (at-is-rule .is-rule .ensures) ∙ not-true _ (c .if1 .taken)))
 
 returns-2 : tie.Need-returns-2 Inv-loop μ-loop
-returns-2 c = sym (c .before .before .before .before .before .loop .inv .1 ∙ rises-low _ _ _ _ _ (c .before .before .before .before .loop-test .taken) (sym (c .before .before .is-rule .ensures) ∙ not-false _ (c .before .if1 .left)) _ refl (c .if2 .taken))
+returns-2 c =
+    let at-if1 = c .before in
+    let at-is-rule = at-if1 .before in
+    let at-loop-test = at-is-rule .before .before in
+    let at-loop = at-loop-test .before in
+    sym (at-loop .loop .inv .1 ∙ rises-low _ _ _ _ _ (at-loop-test .loop-test .taken) (sym (at-is-rule .is-rule .ensures) ∙ not-false _ (at-if1 .if1 .left)) _ refl (c .if2 .taken))
 
 add-lo : tie.Need-add-lo Inv-loop μ-loop
-add-lo c = omega (arith, rule-small _ _ (c .before .before .before .before .before .before .before .pre) _ (c .before .before .is-rule .ensures) (not-false _ (c .before .if1 .left)))
+add-lo c =
+    let at-if1 = c .before in
+    let at-is-rule = at-if1 .before in
+    let start = at-is-rule .before .before .before .before .before in
+    omega (arith, rule-small _ _ (start .pre) _ (at-is-rule .is-rule .ensures) (not-false _ (at-if1 .if1 .left)))
 
 add-k : tie.Need-add-k Inv-loop μ-loop
 add-k c = search needs
@@ -47,7 +60,12 @@ loop-less : tie.Need-loop-less Inv-loop μ-loop
 loop-less c = search needs
 
 loop-again : tie.Need-loop-again Inv-loop μ-loop
-loop-again c = (omega arith, c .before .before .before .before .before .loop .inv .1 ∙ rises-more _ _ _ _ _ (c .before .before .before .before .loop-test .taken) (sym (c .before .before .is-rule .ensures) ∙ not-false _ (c .before .if1 .left)) _ refl (c .if2 .left))
+loop-again c =
+    let at-if1 = c .before in
+    let at-is-rule = at-if1 .before in
+    let at-loop-test = at-is-rule .before .before in
+    let at-loop = at-loop-test .before in
+    (omega arith, at-loop .loop .inv .1 ∙ rises-more _ _ _ _ _ (at-loop-test .loop-test .taken) (sym (at-is-rule .is-rule .ensures) ∙ not-false _ (at-if1 .if1 .left)) _ refl (c .if2 .left))
 
 returns-3 : tie.Need-returns-3 Inv-loop μ-loop
 returns-3 c = sym (c .before .loop .inv .1 ∙ rises-end _ _ _ _ _ (c .loop-test .left))

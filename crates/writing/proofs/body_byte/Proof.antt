@@ -11,11 +11,23 @@ returns c = rw (← c .before .before .must-on .ensures, sym (c .before .is-on .
 
 returns-2 : tie.Need-returns-2
 unfolding bodyByte
-returns-2 c = rw (← c .before .before .before .before .before .must-on .ensures, sym (c .before .before .before .before .is-on .ensures) ∙ c .before .before .before .if1 .left, ← c .before .before .must-off .ensures, sym (c .before .is-on2 .ensures) ∙ c .if2 .taken)
+returns-2 c =
+    let at-is-on2 = c .before in
+    let at-must-off = at-is-on2 .before in
+    let at-if1 = at-must-off .before in
+    let at-is-on = at-if1 .before in
+    let at-must-on = at-is-on .before in
+    rw (← at-must-on .must-on .ensures, sym (at-is-on .is-on .ensures) ∙ at-if1 .if1 .left, ← at-must-off .must-off .ensures, sym (at-is-on2 .is-on2 .ensures) ∙ c .if2 .taken)
 
 returns-3 : tie.Need-returns-3
 unfolding bodyByte
-returns-3 c = rw (← c .before .before .before .before .before .must-on .ensures, sym (c .before .before .before .before .is-on .ensures) ∙ c .before .before .before .if1 .left, ← c .before .before .must-off .ensures, sym (c .before .is-on2 .ensures) ∙ c .if2 .left)
+returns-3 c =
+    let at-is-on2 = c .before in
+    let at-must-off = at-is-on2 .before in
+    let at-if1 = at-must-off .before in
+    let at-is-on = at-if1 .before in
+    let at-must-on = at-is-on .before in
+    rw (← at-must-on .must-on .ensures, sym (at-is-on .is-on .ensures) ∙ at-if1 .if1 .left, ← at-must-off .must-off .ensures, sym (at-is-on2 .is-on2 .ensures) ∙ c .if2 .left)
 
 pub body-byte-spec : {M : Type 1} → statement M
 body-byte-spec =

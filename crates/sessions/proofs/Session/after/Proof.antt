@@ -8,7 +8,10 @@ add-t4 : tie.Need-add-t4
 add-t4 c = omega (arith, c .before .before .before .before .pre .struck-few (c .before .before .if1 .taken))
 
 add-t5 : tie.Need-add-t5
-add-t5 c = omega (arith, c .before .before .before .before .before .before .pre .added-few (c .before .before .before .before .if1 .taken))
+add-t5 c =
+    let at-if1 = c .before .before .before .before in
+    let start = at-if1 .before .before in
+    omega (arith, start .pre .added-few (at-if1 .if1 .taken))
 
 returns : tie.Need-returns
 returns c = after-done _ _ (c .before .before .before .before .if1 .taken)

@@ -11,7 +11,10 @@ take-unless-requires : tie.Need-take-unless-requires
 take-unless-requires c κs = search needs
 
 after-requires : tie.Need-after-requires
-after-requires c κs = take-summable _ _ _ _ _ _ (c .before .before .before .before .before .before .before .totals-fit .ensures) _ _ _ (c .before .before .before .before .take-unless .ensures)
+after-requires c κs =
+    let at-take-unless = c .before .before .before .before in
+    let at-totals-fit = at-take-unless .before .before .before in
+    take-summable _ _ _ _ _ _ (at-totals-fit .totals-fit .ensures) _ _ _ (at-take-unless .take-unless .ensures)
 
 same-length : tie.Need-same-length
 same-length c = search needs
@@ -20,7 +23,10 @@ same-length-2 : tie.Need-same-length-2
 same-length-2 c = search needs
 
 returns : tie.Need-returns
-returns c = take-outcome _ _ _ _ _ _ (c .before .before .before .before .before .before .before .before .totals-fit .ensures) _ _ _ (c .before .before .before .before .before .take-unless .ensures) _ (c .after .ensures)
+returns c =
+    let at-take-unless = c .before .before .before .before .before in
+    let at-totals-fit = at-take-unless .before .before .before in
+    take-outcome _ _ _ _ _ _ (at-totals-fit .totals-fit .ensures) _ _ _ (at-take-unless .take-unless .ensures) _ (c .after .ensures)
 
 pub take-spec : {M : Type 1} → statement M
 take-spec =
