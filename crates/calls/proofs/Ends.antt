@@ -1,42 +1,28 @@
 -- What the calls leave, refused or done.
-use mathlib.Core.Path.{_≡_, refl, sym, ap, ap₂, _∙_, subst}
-use mathlib.Core.Bool.{Bool, true, false, not}
+use mathlib.Core.Path.{_≡_, refl, sym, ap, _∙_, subst}
+use mathlib.Core.Bool.{Bool, not}
 use mathlib.Core.List.{List, _++_}
-use Prim.Native.Nat.{ℕ, zero, suc, _+_, _-_, _^_, _≤_, _<_}
-use native.Mathlib.Nat.{lt-of-lt-of-le}
-use native.Mathlib.Omega.{arith}
+use Prim.Native.Nat.{ℕ, zero, suc, _+_, _≤_}
 use lib.Dec.{ltb}
-use lib.Pow.{pow-mono}
 use lib.ListN.{length, take, drop}
-use lib.Seq.{length-take-le}
-use borrow.Author.Tests.{ltb-false, lt-ltb, le-ltb, not-false}
-use Rattle.table.proofs.Counting.{missing-le}
-use Rattle.table.specs.Surgery.{filled, clearedFrom, Holds}
-use Rattle.table.proofs.Tables.{holds-filled, over-holds, increasing-short}
+use borrow.Author.Tests.{ltb-false, not-false}
+use Rattle.table.specs.Surgery.{clearedFrom, Holds}
+use Rattle.table.proofs.Tables.{holds-filled, over-holds}
 use Rattle.panel.specs.Masks.{panelSize}
 use Rattle.panel.specs.Transitions.{transitionWord}
-use Rattle.prime.specs.Sheets.{freshSheet, takeSheet, goodSheet, struckCount, addedCount}
-use Rattle.prime.proofs.Least.{Good, good-e}
-use Rattle.prime.proofs.Laws.{take-good}
-use Rattle.prime.proofs.Passes.{rule-small}
-use Rattle.panel.specs.Rules.{validRule}
-use Rattle.panel.proofs.Words.{rule-i}
-use Rattle.heirs.proofs.Counts.{counts-balance}
+use Rattle.prime.specs.Sheets.{freshSheet, takeSheet, struckCount, addedCount}
 use Rattle.book.specs.Books.{withWord}
 use Rattle.book.proofs.Books.{book-e}
-use Rattle.sheet.specs.Taking.{tallyOf}
-use Rattle.sheet.specs.declared.Tally.{Tally}
 use Rattle.sheet.proofs.Fresh.{fresh-length}
-use Rattle.answers.specs.Answers.{refuse, plain, done, ifDone}
+use Rattle.answers.specs.Answers.{plain, done, ifDone}
 use Rattle.answers.specs.declared.Answer.{Answer}
 use Rattle.answers.proofs.Laws.{refuse-none, refuse-first, refuse-after, refuse-both, if-refused, if-done}
 use Rattle.calls.specs.Fresh.{freshCode, freshAnswer, freshWords, Fresh}
-use Rattle.calls.specs.Take.{givenCode, bookingCode, entryCode, takeCode, innerCode, takeAnswer, takeBook, takeWords, Taken}
-use Rattle.calls.proofs.Codes.{size-of, Lent, given-none, booking-none}
-use Rattle.calls.specs.Inner.{innerAnswer, Ready, Inner}
-
-same-done : {b b′ p p′ q q′ u u′ : ℕ} → b ≡ b′ → p ≡ p′ → q ≡ q′ → u ≡ u′ → done b p q u ≡ done b′ p′ q′ u′
-same-done e0 e1 e2 e3 = λ x. done (e0 x) (e1 x) (e2 x) (e3 x)
+use Rattle.calls.specs.Take.{givenCode, entryCode, takeCode, takeAnswer, takeBook, takeWords, Taken}
+use Rattle.calls.proofs.Codes.{size-of, Lent, given-none}
+use Rattle.inner.specs.Booking.{bookingCode, innerCode}
+use Rattle.inner.specs.Inner.{innerAnswer, Ready, Inner}
+use Rattle.inner.proofs.Booking.{booking-none}
 
 -- ---- fresh
 
@@ -66,82 +52,6 @@ module _ (n : ℕ) (s : List ℕ) (c : ℕ) (ec : c ≡ freshCode n (length s)) 
         answer = er ∙ sym (if-done (freshCode n (length s)) _ _ g);
         words = holds-filled y z n (length s) (freshSheet n) h ez ∙ sym (if-done (freshCode n (length s)) _ _ g);
       }
-
--- ---- take where only 9 is left
-
-module _ (n t : ℕ) (book : List ℕ) (books : ℕ) (sheet : List ℕ) (sheets : ℕ) (k : Ready n t book books sheet sheets) where
-  abbrev new : List ℕ
-  new = takeSheet n (take sheets sheet) t
-
-  module _ (y : Tally) (ey : y ≡ tallyOf n (take sheets sheet) t) where
-    struck-is : y .struck ≡ struckCount (take sheets sheet) new
-    unfolding tallyOf
-    struck-is = ap (λ (z : Tally). z .struck) ey
-
-    added-is : y .added ≡ addedCount (take sheets sheet) new
-    unfolding tallyOf
-    added-is = ap (λ (z : Tally). z .added) ey
-
-    -- what goes and what comes give the new count
-    pub count-is : length new + y .struck ≡ sheets + y .added
-    count-is =
-        omega (
-          arith,
-          struck-is,
-          added-is,
-          length-take-le sheets sheet (k .sheets-in),
-          counts-balance (take sheets sheet) new (good-e n (take sheets sheet) (k .good-sheet) .sorted) (take-good n (k .small) (take sheets sheet) t .sorted),
-        )
-
-    -- neither is large
-    pub added-few : y .added ≤ 16777216
-    unfolding addedCount
-    added-few = omega (arith, added-is, missing-le (take sheets sheet) new, new-short)
-      where
-        new-good : Good n new
-        new-good = take-good n (k .small) (take sheets sheet) t
-
-        new-short : length new ≤ 16777216
-        new-short = increasing-short new 16777216 (new-good .sorted) (λ x m. rule-small n x (k .small) (validRule n x) refl (rule-i n x (new-good .valid x m)))
-
-    pub sheets-few : sheets ≤ 16777216
-    sheets-few =
-        let g = good-e n (take sheets sheet) (k .good-sheet) in
-        omega (
-          arith,
-          length-take-le sheets sheet (k .sheets-in),
-          increasing-short (take sheets sheet) 16777216 (g .sorted) (λ x m. rule-small n x (k .small) (validRule n x) refl (rule-i n x (g .valid x m))),
-        )
-
-    pub inner-full : (c : ℕ) → c ≡ sheets + y .added - y .struck → length sheet < c → (r : Answer) → r ≡ plain 9 0 books sheets → Inner n t book books sheet sheets book sheet r
-    unfolding innerAnswer innerCode
-    inner-full c ec l r er =
-        let q : refuse (ltb (length sheet) (length new)) 9 0 ≡ 9 = ap (λ (b : Bool). refuse b 9 0) (lt-ltb (length sheet) (length new) (omega (arith, ec, count-is))) in
-        let f : refuse (ltb (length sheet) (length new)) 9 0 ≡ 0 → ⊥ = λ p. omega (arith, p, q) in
-        record {
-          answer = er ∙ ap (λ (m : ℕ). plain m 0 books sheets) (sym q) ∙ sym (if-refused (refuse (ltb (length sheet) (length new)) 9 0) _ _ f);
-          kept = λ p. (refl, refl);
-          booked-in = λ p. absurd (f p);
-          taken-in = λ p. absurd (f p);
-        }
-
-    module _ (c : ℕ) (ec : c ≡ sheets + y .added - y .struck) (l : c ≤ length sheet) where
-      pub inner-room : length new ≤ length sheet
-      inner-room = omega (arith, ec, count-is)
-
-      pub inner-done : (bz sz : List ℕ) (l m : ℕ) → Holds bz l (length book) (withWord t (take books book)) → Holds sz m (length sheet) new
-          → (r : Answer) → r ≡ done l m (y .struck) (y .added) → Inner n t book books sheet sheets bz sz r
-      unfolding innerAnswer innerCode
-      inner-done bz sz l m g h r er =
-          let q : refuse (ltb (length sheet) (length new)) 9 0 ≡ 0 = ap (λ (b : Bool). refuse b 9 0) (le-ltb (length sheet) (length new) inner-room) in
-          let ll : l ≡ length (withWord t (take books book)) = sym (length-take-le l bz (g .fits)) ∙ ap length (g .is) in
-          let lm : m ≡ length new = sym (length-take-le m sz (h .fits)) ∙ ap length (h .is) in
-          record {
-            answer = er ∙ same-done ll lm struck-is added-is ∙ sym (if-done (refuse (ltb (length sheet) (length new)) 9 0) _ _ q);
-            kept = λ f. absurd (f q);
-            booked-in = λ p. subst (λ (x : ℕ). Holds bz x (length book) (withWord t (take books book))) ll g;
-            taken-in = λ p. subst (λ (x : ℕ). Holds sz x (length sheet) new) lm h;
-          }
 
 -- ---- take
 
@@ -270,7 +180,3 @@ module _ (spoilt : Bool) (n : ℕ) (book : List ℕ) (books : ℕ) (sheet : List
         book-words = holds-filled bz by (a .«book_count») (length book) _ book-holds eb ∙ sym (if-done code _ _ (code-is ∙ sym answer-code ∙ z));
         sheet-words = holds-filled sz sy (a .«sheet_count») (length sheet) _ sheet-holds es ∙ sym (if-done code _ _ (code-is ∙ sym answer-code ∙ z));
       }
-
--- states and successors of a panel fit ten relays
-pub fits-ten : (n x : ℕ) → n ≤ 10 → x < 2 ^ n → x < 1024
-fits-ten n x l h = lt-of-lt-of-le h (pow-mono l)

@@ -10,7 +10,8 @@ use Rattle.panel.specs.Transitions.{transitionWord}
 use Rattle.book.specs.Books.{goodBook, told, against, withWord}
 use Rattle.prime.specs.Sheets.{goodSheet, takeSheet}
 use Rattle.answers.specs.Answers.{refuse}
-use Rattle.calls.specs.Take.{givenCode, bookingCode, entryCode, innerCode, takeCode}
+use Rattle.calls.specs.Take.{givenCode, entryCode, takeCode}
+use Rattle.inner.specs.Booking.{bookingCode, innerCode}
 
 -- nine tests, one after the other
 ladder : (a b c d e f g h k : Bool) → ℕ

@@ -1,4 +1,3 @@
 pub mod Fresh
 pub mod Take
 pub mod Apply
-pub mod Inner

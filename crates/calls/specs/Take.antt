@@ -9,9 +9,10 @@ use Rattle.table.specs.Surgery.{filled}
 use Rattle.panel.specs.Masks.{panelSize}
 use Rattle.panel.specs.Transitions.{transitionWord}
 use Rattle.prime.specs.Sheets.{goodSheet, takeSheet, struckCount, addedCount}
-use Rattle.book.specs.Books.{goodBook, told, against, withWord}
+use Rattle.book.specs.Books.{goodBook, withWord}
 use Rattle.answers.specs.Answers.{refuse, plain, done, ifDone}
 use Rattle.answers.specs.declared.Answer.{Answer}
+use Rattle.inner.specs.Booking.{bookingCode, innerCode}
 
 -- the refusals 2 to 6; `spoilt` tells that a session's totals do not fit
 unfoldable pub givenCode : Bool → ℕ → List ℕ → ℕ → List ℕ → ℕ → ℕ → ℕ → ℕ
@@ -22,19 +23,11 @@ givenCode spoilt n book books sheet sheets i j =
     (refuse (not (goodSheet n (take sheets sheet))) 5
     (refuse (not (ltb i (2 ^ n) && ltb j (2 ^ n))) 6 0))))
 
--- the transition is told already, it is against the book, the book with it is too long
-unfoldable pub bookingCode : ℕ → ℕ → List ℕ → ℕ
-bookingCode t room book = refuse (told t book) 1 (refuse (against t book) 7 (refuse (ltb room (length (withWord t book))) 8 0))
-
 -- the refusals before the new sheet is known
 unfoldable pub entryCode : Bool → ℕ → List ℕ → ℕ → List ℕ → ℕ → ℕ → ℕ → ℕ
 entryCode spoilt n book books sheet sheets i j =
     refuse (not (eqb (givenCode spoilt n book books sheet sheets i j) 0)) (givenCode spoilt n book books sheet sheets i j)
     (bookingCode (transitionWord i j) (length book) (take books book))
-
--- 9 exactly if the new sheet has more rules than its slice
-unfoldable pub innerCode : ℕ → ℕ → List ℕ → ℕ → ℕ
-innerCode n t sheet sheets = refuse (ltb (length sheet) (length (takeSheet n (take sheets sheet) t))) 9 0
 
 -- all refusals, in their order
 unfoldable pub takeCode : Bool → ℕ → List ℕ → ℕ → List ℕ → ℕ → ℕ → ℕ → ℕ

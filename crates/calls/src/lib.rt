@@ -1,17 +1,12 @@
 // The public calls fresh, take and apply: each checks its own input, and answers for every input.
 use answers::Answer;
-use answers::done_answer;
 use answers::plain_answer;
-use book::Found;
 ghost use mathlib.Core.Path.{_≡_};
-ghost use mathlib.Core.Bool.{Bool, true, false};
-ghost use lib.ListN.{length, take};
-ghost use Prim.Native.Nat.{_≤_, _<_};
-ghost use Rattle.book.specs.Books.{statesUp};
-ghost use Rattle.panel.specs.Transitions.{transitionWord};
+ghost use mathlib.Core.Bool.{false};
+ghost use lib.ListN.{take};
+ghost use Prim.Native.Nat.{_<_};
 ghost use Rattle.calls.specs.Fresh.{freshCode, Fresh};
-ghost use Rattle.calls.specs.Take.{givenCode, bookingCode, entryCode, Taken};
-ghost use Rattle.calls.specs.Inner.{Ready, Inner};
+ghost use Rattle.calls.specs.Take.{givenCode, entryCode, Taken};
 ghost use Rattle.calls.specs.Apply.{applyCode, applyAnswer};
 
 // What apply gives: the common numbers, and the state.
@@ -87,28 +82,6 @@ fn given_code(
     0
 }
 
-// The codes 1, 7 and 8: this transition is told already, another of its state is, the book is full.
-pub fn booking_code(book: &[u32], i: u32, j: u32, room: usize) -> u32
-    requires { ⌜ (i < 1024) × (j < 1024) × (statesUp (now book) ≡ true) ⌝ }
-    ensures { λ r. ⌜ r ≡ bookingCode (transitionWord i j) room (now (book .entry)) ⌝ }
-{
-    let found = book::find_state(book, i);
-    match found {
-        Found::At(k) => {
-            if panel::next_of(book[k]) == j {
-                return 1;
-            }
-            7
-        }
-        Found::Gap(_) => {
-            if room <= book.len() {
-                return 8;
-            }
-            0
-        }
-    }
-}
-
 // The refusals before the new sheet is known.
 fn entry_code(
     spoilt: bool,
@@ -126,30 +99,7 @@ fn entry_code(
     if code != 0 {
         return code;
     }
-    booking_code(&book[..books], i, j, book.len())
-}
-
-// Take where nothing is left to refuse but 9: judged before a word is written. The words behind both tables are not cleared.
-pub fn take_in(
-    n: u32,
-    t: u32,
-    book: &mut [u32],
-    books: usize,
-    sheet: &mut [u32],
-    sheets: usize,
-) -> Answer
-    requires { ⌜ Ready n t (now book) books (now sheet) sheets ⌝ }
-    ensures { λ r. ⌜ Inner n t (now (book .entry)) books (now (sheet .entry)) sheets (now (book .exit)) (now (sheet .exit)) r ⌝ }
-{
-    let change = sheet::count_changes(&sheet[..sheets], n, t);
-    let struck = change.struck;
-    let added = change.added;
-    if sheet.len() < sheets + added - struck {
-        return plain_answer(9, 0, books, sheets);
-    }
-    let next = book::put_word(book, books, t);
-    let count = sheet::take_rules(sheet, sheets, n, t);
-    done_answer(next, count, struck, added)
+    inner::booking_code(&book[..books], i, j, book.len())
 }
 
 // Take, refused with 3 also where `spoilt` says so.
@@ -170,7 +120,7 @@ pub fn take_unless(
         return plain_answer(code, 0, books, sheets);
     }
     let t = panel::transition_word(i, j);
-    let answer = take_in(n, t, book, books, sheet, sheets);
+    let answer = inner::take_in(n, t, book, books, sheet, sheets);
     if answer.code != 0 {
         return answer;
     }

@@ -15,11 +15,12 @@ use Rattle.book.specs.Books.{goodBook, differ, told, against, withWord, clash, 
 use Rattle.prime.specs.Sheets.{least, sheetWhere, permits, goodSheet, freshSheet, takeSheet, joinSheet, struckCount, addedCount, pullsIn, applySheet}
 use Rattle.answers.specs.declared.Answer.{Answer}
 use Rattle.calls.specs.declared.Applied.{Applied}
-use Rattle.calls.specs.Take.{givenCode, bookingCode, entryCode, innerCode, takeCode, takeAnswer, takeBook, takeWords}
+use Rattle.calls.specs.Take.{givenCode, entryCode, takeCode, takeAnswer, takeBook, takeWords}
 use Rattle.calls.specs.Apply.{applyCode, applyAnswer}
 use Rattle.learning.specs.Learn.{taken, learnStep, learnWords, learnStart, reproduced, learnEnd, learnRun, runAnswer, runBook, runSheet}
 use Rattle.joining.specs.Joining.{exceeds, piecesCode, joinCode, joinAnswer, bookAfter, sheetAfter}
 use Rattle.handover.specs.Bench.{Row, learns, takes, joins, applies, RowStands, sameWords, sameAnswer, rowHolds, tableHolds, bench}
+use Rattle.inner.specs.Booking.{bookingCode, innerCode}
 
 -- every row of the bench passes its test
 pub bench-holds : tableHolds bench ≡ true

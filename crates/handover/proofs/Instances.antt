@@ -17,7 +17,7 @@ use Rattle.prime.specs.Sheets.{least, sheetWhere, permits, goodSheet, freshShee
 use Rattle.answers.specs.Answers.{plain, done}
 use Rattle.answers.specs.declared.Answer.{Answer}
 use Rattle.calls.specs.Fresh.{freshCode, freshAnswer, freshWords}
-use Rattle.calls.specs.Take.{givenCode, bookingCode, entryCode, innerCode, takeCode, takeAnswer, takeBook, takeWords}
+use Rattle.calls.specs.Take.{givenCode, entryCode, takeCode, takeAnswer, takeBook, takeWords}
 use Rattle.learning.specs.Learn.{taken, learnStep, learnWords, learnStart, reproduced, learnEnd, learnRun, runAnswer, runBook, runSheet, Learned}
 use Rattle.joining.specs.Joining.{exceeds, piecesCode, joinCode, joinAnswer, bookAfter, sheetAfter, Joined}
 use Rattle.sessions.specs.declared.Session.{Session}
@@ -31,6 +31,7 @@ use Rattle.handover.proofs.Demands.{pieces-whole}
 use Rattle.handover.proofs.Document000.{learn-program}
 use Rattle.handover.proofs.Specializations.{candidate-specializes, specializes-candidate}
 use Rattle.handover.proofs.Histories.{session-taken, session-used}
+use Rattle.inner.specs.Booking.{bookingCode, innerCode}
 
 -- ---- the calls
 

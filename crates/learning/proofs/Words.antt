@@ -25,12 +25,12 @@ use Rattle.book.proofs.Telling.{with-longer, with-good}
 use Rattle.answers.specs.Answers.{refuse, plain, done, ifDone}
 use Rattle.answers.specs.declared.Answer.{Answer}
 use Rattle.answers.proofs.Laws.{refuse-none, if-done}
-use Rattle.calls.specs.Take.{bookingCode, innerCode}
-use Rattle.calls.proofs.Codes.{booking-none}
-use Rattle.calls.proofs.Ends.{fits-ten}
 use Rattle.learning.specs.Learn.{Run, going, refused, taken, wordCode, learnStep, runIf}
 use Rattle.learning.specs.Running.{runOf, GoodTables, Fit, Next, WordLearned}
-use Rattle.calls.specs.Inner.{innerAnswer, Ready, Inner}
+use Rattle.inner.specs.Booking.{bookingCode, innerCode}
+use Rattle.inner.specs.Inner.{innerAnswer, Ready, Inner}
+use Rattle.inner.proofs.Booking.{booking-none}
+use Rattle.inner.proofs.Inner.{fits-ten}
 
 state-word-few : (t : ℕ) → state t < 1024 → t < 1048576
 unfolding state

@@ -12,7 +12,7 @@ use Rattle.prime.specs.Sheets.{freshSheet, takeSheet, applySheet, struckCount, 
 use Rattle.book.specs.Books.{told, against, withWord}
 use Rattle.answers.specs.Answers.{refuse, plain, done}
 use Rattle.answers.specs.declared.Answer.{Answer}
-use Rattle.calls.specs.Take.{bookingCode}
+use Rattle.inner.specs.Booking.{bookingCode}
 
 -- where learning stands: the book and the sheet so far with the sums of struck and added, or the code and place of a refusal
 pub data Run : Type 0 where

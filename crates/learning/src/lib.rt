@@ -22,7 +22,7 @@ fn word_code(n: u32, t: u32, book: &[u32], room: usize) -> u32
     }
     let i = panel::state_of(t);
     let j = panel::next_of(t);
-    calls::booking_code(book, i, j, room)
+    inner::booking_code(book, i, j, room)
 }
 
 // The word t, number k of the list, which nothing refuses but 9.
@@ -39,7 +39,7 @@ fn learn_next(
 {
     let books = before.book_count;
     let sheets = before.sheet_count;
-    let now = calls::take_in(n, t, book, books, sheet, sheets);
+    let now = inner::take_in(n, t, book, books, sheet, sheets);
     if now.code != 0 {
         return plain_answer(now.code, k, 0, 0);
     }

@@ -17,7 +17,7 @@ use Rattle.answers.specs.Answers.{refuse, plain, done, ifDone}
 use Rattle.answers.specs.declared.Answer.{Answer}
 use Rattle.answers.proofs.Laws.{refuse-first, refuse-after}
 use Rattle.calls.specs.Fresh.{freshCode, freshAnswer, Fresh}
-use Rattle.calls.specs.Take.{givenCode, bookingCode, entryCode, innerCode, takeCode, takeAnswer, Taken}
+use Rattle.calls.specs.Take.{givenCode, entryCode, takeCode, takeAnswer, Taken}
 use Rattle.learning.specs.Learn.{Learned}
 use Rattle.joining.specs.Joining.{Piece, bookIn, sheetIn, joinedBook, joinedSheet, exceeds, piecesCode, joinCode, joinAnswer, Joined, GoodPieces}
 use Rattle.joining.proofs.Judging.{pieces-e, pieces-i, pieces-refused}
@@ -45,6 +45,7 @@ use Rattle.handover.proofs.LearnInstances.{instances}
 use Rattle.promises.specs.NoRoom.{FreshNine, TakeEight, TakeNine, SessionEight, SessionNine, BookFull, SheetFull, LearnEight, LearnNine, JoinEight, JoinNine, ReadEight, WriteTwelve, RunEight, RunNine, RunTwelve}
 use Rattle.promises.specs.Printed.{Recorded, Refused, too-long, faulty, too-many, contradicted as told-twice, too-large, Rooms}
 use Rattle.promises.proofs.Exactly.{refusal-exactly}
+use Rattle.inner.specs.Booking.{bookingCode, innerCode}
 
 -- ---- ladders of refusals
 

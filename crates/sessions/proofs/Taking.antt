@@ -17,11 +17,12 @@ use Rattle.answers.specs.Answers.{plain, done, ifDone}
 use Rattle.answers.specs.declared.Answer.{Answer}
 use Rattle.answers.proofs.Laws.{refuse-none, refuse-both, if-done}
 use Rattle.calls.specs.Take.{givenCode, entryCode, takeCode, takeAnswer}
-use Rattle.calls.proofs.Ends.{entry-ready, count-is, added-few, sheets-few}
+use Rattle.calls.proofs.Ends.{entry-ready}
 use Rattle.sessions.specs.declared.Session.{Session}
 use Rattle.sessions.specs.Sessions.{totalsFit, sessionAnswer}
 use borrow.Author.Tests.{not-false}
-use Rattle.calls.specs.Inner.{Ready}
+use Rattle.inner.specs.Inner.{Ready}
+use Rattle.inner.proofs.Inner.{count-is, added-few, sheets-few}
 
 -- a take that is not refused was not spoilt
 lent-unspoilt : (spoilt : Bool) (n : ℕ) (book : List ℕ) (books : ℕ) (sheet : List ℕ) (sheets i j : ℕ) → givenCode spoilt n book books sheet sheets i j ≡ 0 → spoilt ≡ false

@@ -3,10 +3,11 @@ use mathlib.Core.Path.{sym, _∙_}
 use lib.Seq.{length-take-le}
 use Rattle.book.proofs.Books.{book-e}
 use Rattle.calls.proofs.Codes.{given-none}
-use Rattle.calls.proofs.Ends.{entry-lent, entry-booking, fits-ten}
+use Rattle.calls.proofs.Ends.{entry-lent, entry-booking}
 use borrow.Author.Needs.{needs}
 use Rattle.calls.proofs.entry_code.Statement.{statement}
 use Rattle.calls.proofs.entry_code.Tie as tie
+use Rattle.inner.proofs.Inner.{fits-ten}
 
 given-code-requires : tie.Need-given-code-requires
 given-code-requires c κs = search needs

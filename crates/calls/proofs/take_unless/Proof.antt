@@ -1,10 +1,11 @@
 -- `calls::take_unless` meets its contract.
 use native.Mathlib.Omega.{arith}
 use denote.Ref.{now}
-use Rattle.calls.proofs.Ends.{entry-known, entry-ready, fits-ten, take-refused, take-nine, book-fits, sheet-fits, take-done}
+use Rattle.calls.proofs.Ends.{entry-known, entry-ready, take-refused, take-nine, book-fits, sheet-fits, take-done}
 use borrow.Author.Needs.{needs}
 use Rattle.calls.proofs.take_unless.Statement.{statement}
 use Rattle.calls.proofs.take_unless.Tie as tie
+use Rattle.inner.proofs.Inner.{fits-ten}
 
 entry-code-requires : tie.Need-entry-code-requires
 entry-code-requires c κs = search needs

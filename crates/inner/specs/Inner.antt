@@ -9,7 +9,7 @@ use Rattle.book.specs.Books.{statesUp, told, withWord}
 use Rattle.prime.specs.Sheets.{goodSheet, takeSheet, struckCount, addedCount}
 use Rattle.answers.specs.Answers.{plain, done, ifDone}
 use Rattle.answers.specs.declared.Answer.{Answer}
-use Rattle.calls.specs.Take.{innerCode}
+use Rattle.inner.specs.Booking.{innerCode}
 
 -- its answer
 unfoldable pub innerAnswer : ℕ → ℕ → List ℕ → ℕ → List ℕ → ℕ → Answer

@@ -1,10 +1,10 @@
--- `calls::booking_code` meets its contract.
+-- `inner::booking_code` meets its contract.
 use native.Mathlib.Omega.{arith}
 use denote.Ref.{now}
-use Rattle.calls.proofs.Codes.{booking-in, booking-same, booking-other, booking-full, booking-ok}
+use Rattle.inner.proofs.Booking.{booking-in, booking-same, booking-other, booking-full, booking-ok}
 use borrow.Author.Needs.{needs}
-use Rattle.calls.proofs.booking_code.Statement.{statement}
-use Rattle.calls.proofs.booking_code.Tie as tie
+use Rattle.inner.proofs.booking_code.Statement.{statement}
+use Rattle.inner.proofs.booking_code.Tie as tie
 
 find-state-requires : tie.Need-find-state-requires
 find-state-requires c κs = search needs

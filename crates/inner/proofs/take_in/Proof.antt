@@ -1,12 +1,12 @@
--- `calls::take_in` meets its contract.
+-- `inner::take_in` meets its contract.
 use mathlib.Core.Path.{refl, sym}
 use native.Mathlib.Omega.{arith}
 use denote.Ref.{now}
 use lib.Seq.{length-take-le}
-use Rattle.calls.proofs.Ends.{count-is, added-few, sheets-few, inner-full, inner-room, inner-done}
+use Rattle.inner.proofs.Inner.{count-is, added-few, sheets-few, inner-full, inner-room, inner-done}
 use borrow.Author.Needs.{needs}
-use Rattle.calls.proofs.take_in.Statement.{statement}
-use Rattle.calls.proofs.take_in.Tie as tie
+use Rattle.inner.proofs.take_in.Statement.{statement}
+use Rattle.inner.proofs.take_in.Tie as tie
 
 slice-reshare-prefix-count-changes : tie.Need-slice-reshare-prefix-count-changes
 slice-reshare-prefix-count-changes c = search needs
