@@ -10,11 +10,11 @@ refuse false code later = later
 
 -- an answer with a code, a place and both counts; struck and added are 0
 abbrev pub plain : ℕ → ℕ → ℕ → ℕ → Answer
-plain code place books sheets = record { code = code; place = place; «book_count» = books; «sheet_count» = sheets; struck = 0; added = 0 }
+plain code place bookCount sheetCount = record { code = code; place = place; «book_count» = bookCount; «sheet_count» = sheetCount; struck = 0; added = 0 }
 
 -- done: code 0 and place 0, with the new counts, struck and added
 abbrev pub done : ℕ → ℕ → ℕ → ℕ → Answer
-done books sheets struck added = record { code = 0; place = 0; «book_count» = books; «sheet_count» = sheets; struck = struck; added = added }
+done bookCount sheetCount struck added = record { code = 0; place = 0; «book_count» = bookCount; «sheet_count» = sheetCount; struck = struck; added = added }
 
 -- the first where the code is 0, else the second
 abbrev pub ifDone : {A : Type 0} → ℕ → A → A → A

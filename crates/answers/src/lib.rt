@@ -12,28 +12,28 @@ pub struct Answer {
 }
 
 // A code with a place and counts; struck and added are 0.
-pub fn plain_answer(code: u32, place: usize, books: usize, sheets: usize) -> Answer
-    ensures { λ r. ⌜ r ≡ plain code place books sheets ⌝ }
+pub fn plain_answer(code: u32, place: usize, book_count: usize, sheet_count: usize) -> Answer
+    ensures { λ r. ⌜ r ≡ plain code place «book_count» «sheet_count» ⌝ }
 {
     Answer {
         code,
         place,
-        book_count: books,
-        sheet_count: sheets,
+        book_count,
+        sheet_count,
         struck: 0,
         added: 0,
     }
 }
 
 // Done, with the new counts and what was struck and added.
-pub fn done_answer(books: usize, sheets: usize, struck: usize, added: usize) -> Answer
-    ensures { λ r. ⌜ r ≡ done books sheets struck added ⌝ }
+pub fn done_answer(book_count: usize, sheet_count: usize, struck: usize, added: usize) -> Answer
+    ensures { λ r. ⌜ r ≡ done «book_count» «sheet_count» struck added ⌝ }
 {
     Answer {
         code: 0,
         place: 0,
-        book_count: books,
-        sheet_count: sheets,
+        book_count,
+        sheet_count,
         struck,
         added,
     }

@@ -38,79 +38,79 @@ module _ (n room : ℕ) (x : Bool) (ex : x ≡ panelSize n) where
 
 -- ---- the refusals 2 to 6 of a take
 
-module _ (spoilt : Bool) (n : ℕ) (book : List ℕ) (books : ℕ) (sheet : List ℕ) (sheets i j : ℕ) (x : Bool) (ex : x ≡ panelSize n) where
-  pub given-size : x ≡ false → 2 ≡ givenCode spoilt n book books sheet sheets i j
+module _ (spoilt : Bool) (n : ℕ) (book : List ℕ) (bookCount : ℕ) (sheet : List ℕ) (sheetCount i j : ℕ) (x : Bool) (ex : x ≡ panelSize n) where
+  pub given-size : x ≡ false → 2 ≡ givenCode spoilt n book bookCount sheet sheetCount i j
   unfolding givenCode
   given-size e = sym (simp (sym ex ∙ e))
 
   module _ (e : x ≡ true) where
-    pub given-spoilt : spoilt ≡ true → 3 ≡ givenCode spoilt n book books sheet sheets i j
+    pub given-spoilt : spoilt ≡ true → 3 ≡ givenCode spoilt n book bookCount sheet sheetCount i j
     unfolding givenCode
     given-spoilt f = sym (simp (sym ex ∙ e, f))
 
     module _ (f : spoilt ≡ false) where
-      pub given-books : length book < books → 3 ≡ givenCode spoilt n book books sheet sheets i j
+      pub given-books : length book < bookCount → 3 ≡ givenCode spoilt n book bookCount sheet sheetCount i j
       unfolding givenCode
-      given-books l = sym (simp (sym ex ∙ e, f, lt-ltb (length book) books l))
+      given-books l = sym (simp (sym ex ∙ e, f, lt-ltb (length book) bookCount l))
 
-      module _ (lb : books ≤ length book) where
-        pub given-sheets : length sheet < sheets → 3 ≡ givenCode spoilt n book books sheet sheets i j
+      module _ (lb : bookCount ≤ length book) where
+        pub given-sheets : length sheet < sheetCount → 3 ≡ givenCode spoilt n book bookCount sheet sheetCount i j
         unfolding givenCode
-        given-sheets l = sym (simp (sym ex ∙ e, f, le-ltb (length book) books lb, lt-ltb (length sheet) sheets l))
+        given-sheets l = sym (simp (sym ex ∙ e, f, le-ltb (length book) bookCount lb, lt-ltb (length sheet) sheetCount l))
 
-        module _ (ls : sheets ≤ length sheet) (y : Bool) (ey : y ≡ goodBook n (take books book)) where
-          pub given-bad-book : y ≡ false → 4 ≡ givenCode spoilt n book books sheet sheets i j
+        module _ (ls : sheetCount ≤ length sheet) (y : Bool) (ey : y ≡ goodBook n (take bookCount book)) where
+          pub given-bad-book : y ≡ false → 4 ≡ givenCode spoilt n book bookCount sheet sheetCount i j
           unfolding givenCode
-          given-bad-book g = sym (simp (sym ex ∙ e, f, le-ltb (length book) books lb, le-ltb (length sheet) sheets ls, sym ey ∙ g))
+          given-bad-book g = sym (simp (sym ex ∙ e, f, le-ltb (length book) bookCount lb, le-ltb (length sheet) sheetCount ls, sym ey ∙ g))
 
-          module _ (g : y ≡ true) (z : Bool) (ez : z ≡ goodSheet n (take sheets sheet)) where
-            pub given-bad-sheet : z ≡ false → 5 ≡ givenCode spoilt n book books sheet sheets i j
+          module _ (g : y ≡ true) (z : Bool) (ez : z ≡ goodSheet n (take sheetCount sheet)) where
+            pub given-bad-sheet : z ≡ false → 5 ≡ givenCode spoilt n book bookCount sheet sheetCount i j
             unfolding givenCode
-            given-bad-sheet h = sym (simp (sym ex ∙ e, f, le-ltb (length book) books lb, le-ltb (length sheet) sheets ls, sym ey ∙ g, sym ez ∙ h))
+            given-bad-sheet h = sym (simp (sym ex ∙ e, f, le-ltb (length book) bookCount lb, le-ltb (length sheet) sheetCount ls, sym ey ∙ g, sym ez ∙ h))
 
             module _ (h : z ≡ true) (p : ℕ) (ep : p ≡ 2 ^ n) where
-              pub given-state : p ≤ i → 6 ≡ givenCode spoilt n book books sheet sheets i j
+              pub given-state : p ≤ i → 6 ≡ givenCode spoilt n book bookCount sheet sheetCount i j
               unfolding givenCode
               given-state l =
-                  sym (simp (sym ex ∙ e, f, le-ltb (length book) books lb, le-ltb (length sheet) sheets ls, sym ey ∙ g, sym ez ∙ h, ap (ltb i) (sym ep) ∙ le-ltb i p l))
+                  sym (simp (sym ex ∙ e, f, le-ltb (length book) bookCount lb, le-ltb (length sheet) sheetCount ls, sym ey ∙ g, sym ez ∙ h, ap (ltb i) (sym ep) ∙ le-ltb i p l))
 
               module _ (li : i < p) where
-                pub given-next : p ≤ j → 6 ≡ givenCode spoilt n book books sheet sheets i j
+                pub given-next : p ≤ j → 6 ≡ givenCode spoilt n book bookCount sheet sheetCount i j
                 unfolding givenCode
                 given-next l =
-                    sym (simp (sym ex ∙ e, f, le-ltb (length book) books lb, le-ltb (length sheet) sheets ls, sym ey ∙ g, sym ez ∙ h, ap (ltb i) (sym ep) ∙ lt-ltb i p li, ap (ltb j) (sym ep) ∙ le-ltb j p l))
+                    sym (simp (sym ex ∙ e, f, le-ltb (length book) bookCount lb, le-ltb (length sheet) sheetCount ls, sym ey ∙ g, sym ez ∙ h, ap (ltb i) (sym ep) ∙ lt-ltb i p li, ap (ltb j) (sym ep) ∙ le-ltb j p l))
 
-                pub given-ok : j < p → 0 ≡ givenCode spoilt n book books sheet sheets i j
+                pub given-ok : j < p → 0 ≡ givenCode spoilt n book bookCount sheet sheetCount i j
                 unfolding givenCode
                 given-ok l =
-                    sym (simp (sym ex ∙ e, f, le-ltb (length book) books lb, le-ltb (length sheet) sheets ls, sym ey ∙ g, sym ez ∙ h, ap (ltb i) (sym ep) ∙ lt-ltb i p li, ap (ltb j) (sym ep) ∙ lt-ltb j p l))
+                    sym (simp (sym ex ∙ e, f, le-ltb (length book) bookCount lb, le-ltb (length sheet) sheetCount ls, sym ey ∙ g, sym ez ∙ h, ap (ltb i) (sym ep) ∙ lt-ltb i p li, ap (ltb j) (sym ep) ∙ lt-ltb j p l))
 
 -- what is known of the slices once nothing refused
-pub record Lent (n : ℕ) (book : List ℕ) (books : ℕ) (sheet : List ℕ) (sheets i j : ℕ) : Type 0 where
+pub record Lent (n : ℕ) (book : List ℕ) (bookCount : ℕ) (sheet : List ℕ) (sheetCount i j : ℕ) : Type 0 where
   pub small : n ≤ 10
-  pub books-in : books ≤ length book
-  pub sheets-in : sheets ≤ length sheet
-  pub good-book : goodBook n (take books book) ≡ true
-  pub good-sheet : goodSheet n (take sheets sheet) ≡ true
+  pub books-in : bookCount ≤ length book
+  pub sheets-in : sheetCount ≤ length sheet
+  pub good-book : goodBook n (take bookCount book) ≡ true
+  pub good-sheet : goodSheet n (take sheetCount sheet) ≡ true
   pub state-lt : i < 2 ^ n
   pub next-lt : j < 2 ^ n
 
-pub given-none : (spoilt : Bool) (n : ℕ) (book : List ℕ) (books : ℕ) (sheet : List ℕ) (sheets i j : ℕ) → givenCode spoilt n book books sheet sheets i j ≡ 0 → Lent n book books sheet sheets i j
+pub given-none : (spoilt : Bool) (n : ℕ) (book : List ℕ) (bookCount : ℕ) (sheet : List ℕ) (sheetCount i j : ℕ) → givenCode spoilt n book bookCount sheet sheetCount i j ≡ 0 → Lent n book bookCount sheet sheetCount i j
 unfolding givenCode
-given-none spoilt n book books sheet sheets i j e =
+given-none spoilt n book bookCount sheet sheetCount i j e =
     let a = refuse-none (not (panelSize n)) 1 _ e in
-    let b = refuse-none (spoilt || (ltb (length book) books || ltb (length sheet) sheets)) 2 _ (a .1) in
-    let c = refuse-none (not (goodBook n (take books book))) 3 _ (b .1) in
-    let d = refuse-none (not (goodSheet n (take sheets sheet))) 4 _ (c .1) in
+    let b = refuse-none (spoilt || (ltb (length book) bookCount || ltb (length sheet) sheetCount)) 2 _ (a .1) in
+    let c = refuse-none (not (goodBook n (take bookCount book))) 3 _ (b .1) in
+    let d = refuse-none (not (goodSheet n (take sheetCount sheet))) 4 _ (c .1) in
     let f = refuse-none (not (ltb i (2 ^ n) && ltb j (2 ^ n))) 5 _ (d .1) in
-    let q = or-no (ltb (length book) books) (ltb (length sheet) sheets) (or-no spoilt (ltb (length book) books || ltb (length sheet) sheets) (b .0) .1) in
+    let q = or-no (ltb (length book) bookCount) (ltb (length sheet) sheetCount) (or-no spoilt (ltb (length book) bookCount || ltb (length sheet) sheetCount) (b .0) .1) in
     let s = not-false (ltb i (2 ^ n) && ltb j (2 ^ n)) (f .0) in
     record {
       small = size-of n (not-false (panelSize n) (a .0)) .1;
-      books-in = ltb-false (length book) books (q .0);
-      sheets-in = ltb-false (length sheet) sheets (q .1);
-      good-book = not-false (goodBook n (take books book)) (c .0);
-      good-sheet = not-false (goodSheet n (take sheets sheet)) (d .0);
+      books-in = ltb-false (length book) bookCount (q .0);
+      sheets-in = ltb-false (length sheet) sheetCount (q .1);
+      good-book = not-false (goodBook n (take bookCount book)) (c .0);
+      good-sheet = not-false (goodSheet n (take sheetCount sheet)) (d .0);
       state-lt = ltb-true i (2 ^ n) (and-l (ltb i (2 ^ n)) (ltb j (2 ^ n)) s);
       next-lt = ltb-true j (2 ^ n) (and-r (ltb i (2 ^ n)) (ltb j (2 ^ n)) s);
     }

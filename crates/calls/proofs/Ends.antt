@@ -55,45 +55,45 @@ module _ (n : ℕ) (s : List ℕ) (c : ℕ) (ec : c ≡ freshCode n (length s)) 
 
 -- ---- take
 
-module _ (spoilt : Bool) (n : ℕ) (book : List ℕ) (books : ℕ) (sheet : List ℕ) (sheets i j : ℕ) where
+module _ (spoilt : Bool) (n : ℕ) (book : List ℕ) (bookCount : ℕ) (sheet : List ℕ) (sheetCount i j : ℕ) where
   abbrev word : ℕ
   word = transitionWord i j
 
   abbrev entry : ℕ
-  entry = entryCode spoilt n book books sheet sheets i j
+  entry = entryCode spoilt n book bookCount sheet sheetCount i j
 
   abbrev code : ℕ
-  code = takeCode spoilt n book books sheet sheets i j
+  code = takeCode spoilt n book bookCount sheet sheetCount i j
 
-  pub entry-lent : (l : ℕ) → l ≡ givenCode spoilt n book books sheet sheets i j → (l ≡ 0 → ⊥) → l ≡ entry
+  pub entry-lent : (l : ℕ) → l ≡ givenCode spoilt n book bookCount sheet sheetCount i j → (l ≡ 0 → ⊥) → l ≡ entry
   unfolding entryCode
-  entry-lent l el f = el ∙ refuse-first (givenCode spoilt n book books sheet sheets i j) _ (λ e. f (el ∙ e))
+  entry-lent l el f = el ∙ refuse-first (givenCode spoilt n book bookCount sheet sheetCount i j) _ (λ e. f (el ∙ e))
 
-  pub entry-booking : (l b : ℕ) → l ≡ givenCode spoilt n book books sheet sheets i j → l ≡ 0 → b ≡ bookingCode word (length book) (take books book) → b ≡ entry
+  pub entry-booking : (l b : ℕ) → l ≡ givenCode spoilt n book bookCount sheet sheetCount i j → l ≡ 0 → b ≡ bookingCode word (length book) (take bookCount book) → b ≡ entry
   unfolding entryCode
-  entry-booking l b el e eb = eb ∙ sym (refuse-after (givenCode spoilt n book books sheet sheets i j) _ (sym el ∙ e))
+  entry-booking l b el e eb = eb ∙ sym (refuse-after (givenCode spoilt n book bookCount sheet sheetCount i j) _ (sym el ∙ e))
 
-  pub entry-known : (c : ℕ) → c ≡ entry → c ≡ 0 → Lent n book books sheet sheets i j
+  pub entry-known : (c : ℕ) → c ≡ entry → c ≡ 0 → Lent n book bookCount sheet sheetCount i j
   unfolding entryCode
-  entry-known c ec e = given-none spoilt n book books sheet sheets i j (refuse-both (givenCode spoilt n book books sheet sheets i j) _ (sym ec ∙ e) .0)
+  entry-known c ec e = given-none spoilt n book bookCount sheet sheetCount i j (refuse-both (givenCode spoilt n book bookCount sheet sheetCount i j) _ (sym ec ∙ e) .0)
 
-  pub entry-ready : (c : ℕ) → c ≡ entry → c ≡ 0 → (w : ℕ) → w ≡ word → Ready n w book books sheet sheets
+  pub entry-ready : (c : ℕ) → c ≡ entry → c ≡ 0 → (w : ℕ) → w ≡ word → Ready n w book bookCount sheet sheetCount
   unfolding entryCode
   entry-ready c ec e w ew =
       let l = entry-known c ec e in
-      let z : bookingCode word (length book) (take books book) ≡ 0 = refuse-both (givenCode spoilt n book books sheet sheets i j) _ (sym ec ∙ e) .1 in
-      let b = booking-none w (length book) (take books book) (ap (λ (x : ℕ). bookingCode x (length book) (take books book)) ew ∙ z) in
+      let z : bookingCode word (length book) (take bookCount book) ≡ 0 = refuse-both (givenCode spoilt n book bookCount sheet sheetCount i j) _ (sym ec ∙ e) .1 in
+      let b = booking-none w (length book) (take bookCount book) (ap (λ (x : ℕ). bookingCode x (length book) (take bookCount book)) ew ∙ z) in
       record {
         small = l .small;
         books-in = l .books-in;
-        in-order = book-e n (take books book) (l .good-book) .rising;
+        in-order = book-e n (take bookCount book) (l .good-book) .rising;
         untold = b .0;
         room = b .2;
         sheets-in = l .sheets-in;
         good-sheet = l .good-sheet;
       }
 
-  refused-all : (r : Answer) → (code ≡ 0 → ⊥) → r ≡ plain code 0 books sheets → Taken spoilt n book books sheet sheets i j book sheet r
+  refused-all : (r : Answer) → (code ≡ 0 → ⊥) → r ≡ plain code 0 bookCount sheetCount → Taken spoilt n book bookCount sheet sheetCount i j book sheet r
   unfolding takeAnswer takeBook takeWords
   refused-all r f er = record {
     answer = er ∙ sym (if-refused code _ _ f);
@@ -101,41 +101,41 @@ module _ (spoilt : Bool) (n : ℕ) (book : List ℕ) (books : ℕ) (sheet : List
     sheet-words = sym (if-refused code _ _ f);
   }
 
-  pub take-refused : (c : ℕ) → c ≡ entry → (c ≡ 0 → ⊥) → (r : Answer) → r ≡ plain c 0 books sheets → Taken spoilt n book books sheet sheets i j book sheet r
+  pub take-refused : (c : ℕ) → c ≡ entry → (c ≡ 0 → ⊥) → (r : Answer) → r ≡ plain c 0 bookCount sheetCount → Taken spoilt n book bookCount sheet sheetCount i j book sheet r
   unfolding takeCode
   take-refused c ec f r er =
       let e : c ≡ code = ec ∙ refuse-first entry _ (λ q. f (ec ∙ q)) in
-      refused-all r (λ q. f (e ∙ q)) (er ∙ ap (λ (m : ℕ). plain m 0 books sheets) e)
+      refused-all r (λ q. f (e ∙ q)) (er ∙ ap (λ (m : ℕ). plain m 0 bookCount sheetCount) e)
 
-  module _ (c : ℕ) (ec : c ≡ entry) (e : c ≡ 0) (w : ℕ) (ew : w ≡ word) (bz sz : List ℕ) (a : Answer) (h : Inner n w book books sheet sheets bz sz a) where
+  module _ (c : ℕ) (ec : c ≡ entry) (e : c ≡ 0) (w : ℕ) (ew : w ≡ word) (bz sz : List ℕ) (a : Answer) (h : Inner n w book bookCount sheet sheetCount bz sz a) where
     abbrev inner : ℕ
-    inner = innerCode n word sheet sheets
+    inner = innerCode n word sheet sheetCount
 
-    same-inner : innerCode n w sheet sheets ≡ inner
-    same-inner = ap (λ (x : ℕ). innerCode n x sheet sheets) ew
+    same-inner : innerCode n w sheet sheetCount ≡ inner
+    same-inner = ap (λ (x : ℕ). innerCode n x sheet sheetCount) ew
 
     code-is : code ≡ inner
     unfolding takeCode
     code-is = refuse-after entry _ (sym ec ∙ e)
 
-    answer-is : a ≡ takeAnswer spoilt n book books sheet sheets i j
+    answer-is : a ≡ takeAnswer spoilt n book bookCount sheet sheetCount i j
     unfolding takeAnswer innerAnswer
     answer-is =
-        h .answer ∙ ap (λ (x : ℕ). innerAnswer n x book books sheet sheets) ew
-        ∙ ap (λ (x : ℕ). ifDone x (done (length (withWord word (take books book))) (length (takeSheet n (take sheets sheet) word)) (struckCount (take sheets sheet) (takeSheet n (take sheets sheet) word)) (addedCount (take sheets sheet) (takeSheet n (take sheets sheet) word))) (plain x 0 books sheets)) (sym code-is)
+        h .answer ∙ ap (λ (x : ℕ). innerAnswer n x book bookCount sheet sheetCount) ew
+        ∙ ap (λ (x : ℕ). ifDone x (done (length (withWord word (take bookCount book))) (length (takeSheet n (take sheetCount sheet) word)) (struckCount (take sheetCount sheet) (takeSheet n (take sheetCount sheet) word)) (addedCount (take sheetCount sheet) (takeSheet n (take sheetCount sheet) word))) (plain x 0 bookCount sheetCount)) (sym code-is)
 
     answer-code : a .code ≡ inner
     unfolding innerAnswer
-    answer-code = ap (λ (x : Answer). x .code) (h .answer) ∙ ap (λ (x : ℕ). (innerAnswer n x book books sheet sheets) .code) ew ∙ picked-code inner
+    answer-code = ap (λ (x : Answer). x .code) (h .answer) ∙ ap (λ (x : ℕ). (innerAnswer n x book bookCount sheet sheetCount) .code) ew ∙ picked-code inner
       where
-        picked-code : (x : ℕ) → (ifDone x (done (length (withWord word (take books book))) (length (takeSheet n (take sheets sheet) word)) (struckCount (take sheets sheet) (takeSheet n (take sheets sheet) word)) (addedCount (take sheets sheet) (takeSheet n (take sheets sheet) word))) (plain x 0 books sheets)) .code ≡ x
+        picked-code : (x : ℕ) → (ifDone x (done (length (withWord word (take bookCount book))) (length (takeSheet n (take sheetCount sheet) word)) (struckCount (take sheetCount sheet) (takeSheet n (take sheetCount sheet) word)) (addedCount (take sheetCount sheet) (takeSheet n (take sheetCount sheet) word))) (plain x 0 bookCount sheetCount)) .code ≡ x
         picked-code zero = refl
         picked-code (suc x) = refl
 
-    pub take-nine : (a .code ≡ 0 → ⊥) → Taken spoilt n book books sheet sheets i j bz sz a
+    pub take-nine : (a .code ≡ 0 → ⊥) → Taken spoilt n book bookCount sheet sheetCount i j bz sz a
     unfolding takeBook takeWords
     take-nine f =
-        let g : innerCode n w sheet sheets ≡ 0 → ⊥ = λ p. f (answer-code ∙ sym same-inner ∙ p) in
+        let g : innerCode n w sheet sheetCount ≡ 0 → ⊥ = λ p. f (answer-code ∙ sym same-inner ∙ p) in
         let d : code ≡ 0 → ⊥ = λ p. f (answer-code ∙ sym code-is ∙ p) in
         record {
           answer = answer-is;
@@ -144,28 +144,28 @@ module _ (spoilt : Bool) (n : ℕ) (book : List ℕ) (books : ℕ) (sheet : List
         }
 
     module _ (z : a .code ≡ 0) where
-      inner-zero : innerCode n w sheet sheets ≡ 0
+      inner-zero : innerCode n w sheet sheetCount ≡ 0
       inner-zero = same-inner ∙ sym answer-code ∙ z
 
-      done-parts : a ≡ done (length (withWord word (take books book))) (length (takeSheet n (take sheets sheet) word)) (struckCount (take sheets sheet) (takeSheet n (take sheets sheet) word)) (addedCount (take sheets sheet) (takeSheet n (take sheets sheet) word))
+      done-parts : a ≡ done (length (withWord word (take bookCount book))) (length (takeSheet n (take sheetCount sheet) word)) (struckCount (take sheetCount sheet) (takeSheet n (take sheetCount sheet) word)) (addedCount (take sheetCount sheet) (takeSheet n (take sheetCount sheet) word))
       unfolding takeAnswer
       done-parts = answer-is ∙ if-done code _ _ (code-is ∙ sym answer-code ∙ z)
 
-      next-is : a .«book_count» ≡ length (withWord word (take books book))
+      next-is : a .«book_count» ≡ length (withWord word (take bookCount book))
       next-is = ap (λ (x : Answer). x .«book_count») done-parts
 
-      count-new : a .«sheet_count» ≡ length (takeSheet n (take sheets sheet) word)
+      count-new : a .«sheet_count» ≡ length (takeSheet n (take sheetCount sheet) word)
       count-new = ap (λ (x : Answer). x .«sheet_count») done-parts
 
-      book-holds : Holds bz (a .«book_count») (length book) (withWord word (take books book))
+      book-holds : Holds bz (a .«book_count») (length book) (withWord word (take bookCount book))
       book-holds =
-          subst (λ (x : ℕ). Holds bz x (length book) (withWord word (take books book))) (sym next-is)
-          (subst (λ (x : ℕ). Holds bz (length (withWord x (take books book))) (length book) (withWord x (take books book))) ew (h .booked-in inner-zero))
+          subst (λ (x : ℕ). Holds bz x (length book) (withWord word (take bookCount book))) (sym next-is)
+          (subst (λ (x : ℕ). Holds bz (length (withWord x (take bookCount book))) (length book) (withWord x (take bookCount book))) ew (h .booked-in inner-zero))
 
-      sheet-holds : Holds sz (a .«sheet_count») (length sheet) (takeSheet n (take sheets sheet) word)
+      sheet-holds : Holds sz (a .«sheet_count») (length sheet) (takeSheet n (take sheetCount sheet) word)
       sheet-holds =
-          subst (λ (x : ℕ). Holds sz x (length sheet) (takeSheet n (take sheets sheet) word)) (sym count-new)
-          (subst (λ (x : ℕ). Holds sz (length (takeSheet n (take sheets sheet) x)) (length sheet) (takeSheet n (take sheets sheet) x)) ew (h .taken-in inner-zero))
+          subst (λ (x : ℕ). Holds sz x (length sheet) (takeSheet n (take sheetCount sheet) word)) (sym count-new)
+          (subst (λ (x : ℕ). Holds sz (length (takeSheet n (take sheetCount sheet) x)) (length sheet) (takeSheet n (take sheetCount sheet) x)) ew (h .taken-in inner-zero))
 
       pub book-fits : a .«book_count» ≤ length bz
       book-fits = book-holds .fits
@@ -173,7 +173,7 @@ module _ (spoilt : Bool) (n : ℕ) (book : List ℕ) (books : ℕ) (sheet : List
       pub sheet-fits : a .«sheet_count» ≤ length sz
       sheet-fits = sheet-holds .fits
 
-      pub take-done : (by sy : List ℕ) → by ≡ clearedFrom (a .«book_count») bz → sy ≡ clearedFrom (a .«sheet_count») sz → Taken spoilt n book books sheet sheets i j by sy a
+      pub take-done : (by sy : List ℕ) → by ≡ clearedFrom (a .«book_count») bz → sy ≡ clearedFrom (a .«sheet_count») sz → Taken spoilt n book bookCount sheet sheetCount i j by sy a
       unfolding takeBook takeWords
       take-done by sy eb es = record {
         answer = answer-is;

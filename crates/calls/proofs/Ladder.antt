@@ -35,21 +35,21 @@ parts false false false false false false false false true = refl
 parts false false false false false false false false false = refl
 
 -- 2, 3, 4, 5, 6, then 1 beside 7, then 8, then 9
-pub take-asks : (spoilt : Bool) (n : ℕ) (book : List ℕ) (books : ℕ) (sheet : List ℕ) (sheets i j : ℕ)
-    → takeCode spoilt n book books sheet sheets i j
+pub take-asks : (spoilt : Bool) (n : ℕ) (book : List ℕ) (bookCount : ℕ) (sheet : List ℕ) (sheetCount i j : ℕ)
+    → takeCode spoilt n book bookCount sheet sheetCount i j
     ≡ refuse (not (panelSize n)) 2
-    (refuse (spoilt || (ltb (length book) books || ltb (length sheet) sheets)) 3
-    (refuse (not (goodBook n (take books book))) 4
-    (refuse (not (goodSheet n (take sheets sheet))) 5
+    (refuse (spoilt || (ltb (length book) bookCount || ltb (length sheet) sheetCount)) 3
+    (refuse (not (goodBook n (take bookCount book))) 4
+    (refuse (not (goodSheet n (take sheetCount sheet))) 5
     (refuse (not (ltb i (2 ^ n) && ltb j (2 ^ n))) 6
-    (refuse (told (transitionWord i j) (take books book)) 1
-    (refuse (against (transitionWord i j) (take books book)) 7
-    (refuse (ltb (length book) (length (withWord (transitionWord i j) (take books book)))) 8
-    (refuse (ltb (length sheet) (length (takeSheet n (take sheets sheet) (transitionWord i j)))) 9
+    (refuse (told (transitionWord i j) (take bookCount book)) 1
+    (refuse (against (transitionWord i j) (take bookCount book)) 7
+    (refuse (ltb (length book) (length (withWord (transitionWord i j) (take bookCount book)))) 8
+    (refuse (ltb (length sheet) (length (takeSheet n (take sheetCount sheet) (transitionWord i j)))) 9
     0))))))))
 unfolding takeCode entryCode givenCode bookingCode innerCode ladder
-take-asks spoilt n book books sheet sheets i j =
-    parts (not (panelSize n)) (spoilt || (ltb (length book) books || ltb (length sheet) sheets)) (not (goodBook n (take books book)))
-    (not (goodSheet n (take sheets sheet))) (not (ltb i (2 ^ n) && ltb j (2 ^ n))) (told (transitionWord i j) (take books book))
-    (against (transitionWord i j) (take books book)) (ltb (length book) (length (withWord (transitionWord i j) (take books book))))
-    (ltb (length sheet) (length (takeSheet n (take sheets sheet) (transitionWord i j))))
+take-asks spoilt n book bookCount sheet sheetCount i j =
+    parts (not (panelSize n)) (spoilt || (ltb (length book) bookCount || ltb (length sheet) sheetCount)) (not (goodBook n (take bookCount book)))
+    (not (goodSheet n (take sheetCount sheet))) (not (ltb i (2 ^ n) && ltb j (2 ^ n))) (told (transitionWord i j) (take bookCount book))
+    (against (transitionWord i j) (take bookCount book)) (ltb (length book) (length (withWord (transitionWord i j) (take bookCount book))))
+    (ltb (length sheet) (length (takeSheet n (take sheetCount sheet) (transitionWord i j))))

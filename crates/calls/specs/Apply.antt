@@ -11,13 +11,13 @@ use Rattle.answers.specs.Answers.{refuse, plain, ifDone}
 use Rattle.calls.specs.declared.Applied.{Applied}
 
 unfoldable pub applyCode : ℕ → List ℕ → ℕ → ℕ → ℕ
-applyCode n sheet sheets x =
+applyCode n sheet sheetCount x =
     refuse (not (panelSize n)) 2
-    (refuse (ltb (length sheet) sheets) 3
-    (refuse (not (goodSheet n (take sheets sheet))) 5
+    (refuse (ltb (length sheet) sheetCount) 3
+    (refuse (not (goodSheet n (take sheetCount sheet))) 5
     (refuse (not (ltb x (2 ^ n))) 6 0)))
 
 -- counts 0 always; the state that the sheet gives, 0 where refused
 unfoldable pub applyAnswer : ℕ → List ℕ → ℕ → ℕ → Applied
-applyAnswer n sheet sheets x =
-    record { answer = plain (applyCode n sheet sheets x) 0 0 0; state = ifDone (applyCode n sheet sheets x) (applySheet n (take sheets sheet) x) 0 }
+applyAnswer n sheet sheetCount x =
+    record { answer = plain (applyCode n sheet sheetCount x) 0 0 0; state = ifDone (applyCode n sheet sheetCount x) (applySheet n (take sheetCount sheet) x) 0 }

@@ -46,13 +46,13 @@ fn given_code(
     spoilt: bool,
     n: u32,
     book: &[u32],
-    books: usize,
+    book_count: usize,
     sheet: &[u32],
-    sheets: usize,
+    sheet_count: usize,
     i: u32,
     j: u32,
 ) -> u32
-    ensures { λ r. ⌜ r ≡ givenCode spoilt n (now (book .entry)) books (now (sheet .entry)) sheets i j ⌝ }
+    ensures { λ r. ⌜ r ≡ givenCode spoilt n (now (book .entry)) «book_count» (now (sheet .entry)) «sheet_count» i j ⌝ }
 {
     if !panel::is_panel_size(n) {
         return 2;
@@ -60,16 +60,16 @@ fn given_code(
     if spoilt {
         return 3;
     }
-    if book.len() < books {
+    if book.len() < book_count {
         return 3;
     }
-    if sheet.len() < sheets {
+    if sheet.len() < sheet_count {
         return 3;
     }
-    if !book::is_good_book(n, &book[..books]) {
+    if !book::is_good_book(n, &book[..book_count]) {
         return 4;
     }
-    if !prime::is_good_sheet(n, &sheet[..sheets]) {
+    if !prime::is_good_sheet(n, &sheet[..sheet_count]) {
         return 5;
     }
     let states = panel::power(n);
@@ -87,19 +87,19 @@ fn entry_code(
     spoilt: bool,
     n: u32,
     book: &[u32],
-    books: usize,
+    book_count: usize,
     sheet: &[u32],
-    sheets: usize,
+    sheet_count: usize,
     i: u32,
     j: u32,
 ) -> u32
-    ensures { λ r. ⌜ r ≡ entryCode spoilt n (now (book .entry)) books (now (sheet .entry)) sheets i j ⌝ }
+    ensures { λ r. ⌜ r ≡ entryCode spoilt n (now (book .entry)) «book_count» (now (sheet .entry)) «sheet_count» i j ⌝ }
 {
-    let code = given_code(spoilt, n, book, books, sheet, sheets, i, j);
+    let code = given_code(spoilt, n, book, book_count, sheet, sheet_count, i, j);
     if code != 0 {
         return code;
     }
-    inner::booking_code(&book[..books], i, j, book.len())
+    inner::booking_code(&book[..book_count], i, j, book.len())
 }
 
 // Take, refused with 3 also where `spoilt` says so.
@@ -109,18 +109,18 @@ pub fn take_unless(
     i: u32,
     j: u32,
     book: &mut [u32],
-    books: usize,
+    book_count: usize,
     sheet: &mut [u32],
-    sheets: usize,
+    sheet_count: usize,
 ) -> Answer
-    ensures { λ r. ⌜ Taken spoilt n (now (book .entry)) books (now (sheet .entry)) sheets i j (now (book .exit)) (now (sheet .exit)) r ⌝ }
+    ensures { λ r. ⌜ Taken spoilt n (now (book .entry)) «book_count» (now (sheet .entry)) «sheet_count» i j (now (book .exit)) (now (sheet .exit)) r ⌝ }
 {
-    let code = entry_code(spoilt, n, book, books, sheet, sheets, i, j);
+    let code = entry_code(spoilt, n, book, book_count, sheet, sheet_count, i, j);
     if code != 0 {
-        return plain_answer(code, 0, books, sheets);
+        return plain_answer(code, 0, book_count, sheet_count);
     }
     let t = panel::transition_word(i, j);
-    let answer = inner::take_in(n, t, book, books, sheet, sheets);
+    let answer = inner::take_in(n, t, book, book_count, sheet, sheet_count);
     if answer.code != 0 {
         return answer;
     }
@@ -137,25 +137,25 @@ pub fn take(
     i: u32,
     j: u32,
     book: &mut [u32],
-    books: usize,
+    book_count: usize,
     sheet: &mut [u32],
-    sheets: usize,
+    sheet_count: usize,
 ) -> Answer
-    ensures { λ r. ⌜ Taken false n (now (book .entry)) books (now (sheet .entry)) sheets i j (now (book .exit)) (now (sheet .exit)) r ⌝ }
+    ensures { λ r. ⌜ Taken false n (now (book .entry)) «book_count» (now (sheet .entry)) «sheet_count» i j (now (book .exit)) (now (sheet .exit)) r ⌝ }
 {
-    take_unless(false, n, i, j, book, books, sheet, sheets)
+    take_unless(false, n, i, j, book, book_count, sheet, sheet_count)
 }
 
-fn apply_code(n: u32, sheet: &[u32], sheets: usize, x: u32) -> u32
-    ensures { λ r. ⌜ r ≡ applyCode n (now (sheet .entry)) sheets x ⌝ }
+fn apply_code(n: u32, sheet: &[u32], sheet_count: usize, x: u32) -> u32
+    ensures { λ r. ⌜ r ≡ applyCode n (now (sheet .entry)) «sheet_count» x ⌝ }
 {
     if !panel::is_panel_size(n) {
         return 2;
     }
-    if sheet.len() < sheets {
+    if sheet.len() < sheet_count {
         return 3;
     }
-    if !prime::is_good_sheet(n, &sheet[..sheets]) {
+    if !prime::is_good_sheet(n, &sheet[..sheet_count]) {
         return 5;
     }
     if panel::power(n) <= x {
@@ -165,10 +165,10 @@ fn apply_code(n: u32, sheet: &[u32], sheets: usize, x: u32) -> u32
 }
 
 // Applies the sheet to a state: a relay is on in the answer exactly if some rule of it covers the state.
-pub fn apply(n: u32, sheet: &[u32], sheets: usize, x: u32) -> Applied
-    ensures { λ r. ⌜ r ≡ applyAnswer n (now (sheet .entry)) sheets x ⌝ }
+pub fn apply(n: u32, sheet: &[u32], sheet_count: usize, x: u32) -> Applied
+    ensures { λ r. ⌜ r ≡ applyAnswer n (now (sheet .entry)) «sheet_count» x ⌝ }
 {
-    let code = apply_code(n, sheet, sheets, x);
+    let code = apply_code(n, sheet, sheet_count, x);
     if code != 0 {
         return Applied {
             answer: plain_answer(code, 0, 0, 0),
@@ -177,6 +177,6 @@ pub fn apply(n: u32, sheet: &[u32], sheets: usize, x: u32) -> Applied
     }
     Applied {
         answer: plain_answer(0, 0, 0, 0),
-        state: prime::apply_rules(n, &sheet[..sheets], x),
+        state: prime::apply_rules(n, &sheet[..sheet_count], x),
     }
 }

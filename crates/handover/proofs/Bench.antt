@@ -64,13 +64,13 @@ results-same r r′ a book book′ b sheet sheet′ s er eb es e =
 pub row-stands : (k : Row) → rowHolds k ≡ true → RowStands k
 row-stands (learns n words bookRoom sheetRoom a b s) e =
     λ r book sheet h. results-same r _ a book _ b sheet _ s (h .answer) (h .book-words) (h .sheet-words) e
-row-stands (takes n oldBook books oldSheet sheets i j a b s) e =
+row-stands (takes n oldBook bookCount oldSheet sheetCount i j a b s) e =
     λ r book sheet h. results-same r _ a book _ b sheet _ s (h .answer) (h .book-words) (h .sheet-words) e
 row-stands (joins n p q oldBook oldSheet a b s) e =
     λ r book sheet h. results-same r _ a book _ b sheet _ s (h .answer) (h .book-left) (h .sheet-left) e
-row-stands (applies n sheet sheets x a y) e = λ r h. (
-  ap (λ (z : Applied). z .answer) h ∙ answer-same (applyAnswer n sheet sheets x .answer) a (and-l (sameAnswer (applyAnswer n sheet sheets x .answer) a) (eqb (applyAnswer n sheet sheets x .state) y) e),
-  ap (λ (z : Applied). z .state) h ∙ eqb-true (applyAnswer n sheet sheets x .state) y (and-r (sameAnswer (applyAnswer n sheet sheets x .answer) a) (eqb (applyAnswer n sheet sheets x .state) y) e),
+row-stands (applies n sheet sheetCount x a y) e = λ r h. (
+  ap (λ (z : Applied). z .answer) h ∙ answer-same (applyAnswer n sheet sheetCount x .answer) a (and-l (sameAnswer (applyAnswer n sheet sheetCount x .answer) a) (eqb (applyAnswer n sheet sheetCount x .state) y) e),
+  ap (λ (z : Applied). z .state) h ∙ eqb-true (applyAnswer n sheet sheetCount x .state) y (and-r (sameAnswer (applyAnswer n sheet sheetCount x .answer) a) (eqb (applyAnswer n sheet sheetCount x .state) y) e),
 )
 
 rows-stand : (ks : List Row) → tableHolds ks ≡ true → (k : Row) → Mem k ks → RowStands k

@@ -48,30 +48,30 @@ ends-with-1 false false false false false false false true k q = absurd (omega (
 ends-with-1 false false false false false false false false true q = absurd (omega (arith, q))
 ends-with-1 false false false false false false false false false q = absurd (omega (arith, q))
 
-module _ (spoilt : Bool) (n : ℕ) (book : List ℕ) (books : ℕ) (sheet : List ℕ) (sheets i j : ℕ) where
+module _ (spoilt : Bool) (n : ℕ) (book : List ℕ) (bookCount : ℕ) (sheet : List ℕ) (sheetCount i j : ℕ) where
   abbrev code : ℕ
-  code = takeCode spoilt n book books sheet sheets i j
+  code = takeCode spoilt n book bookCount sheet sheetCount i j
 
   abbrev t : ℕ
   t = transitionWord i j
 
   abbrev before : Piece
-  before = piece book books sheet sheets
+  before = piece book bookCount sheet sheetCount
 
   abbrev new : List ℕ
   new = takeSheet n (sheetIn before) t
 
   -- what is known of the slices where take is done
-  known : code ≡ 0 → Lent n book books sheet sheets i j
+  known : code ≡ 0 → Lent n book bookCount sheet sheetCount i j
   unfolding takeCode
-  known z = entry-known spoilt n book books sheet sheets i j 0 (sym (refuse-both (entryCode spoilt n book books sheet sheets i j) _ z .0)) refl
+  known z = entry-known spoilt n book bookCount sheet sheetCount i j 0 (sym (refuse-both (entryCode spoilt n book bookCount sheet sheetCount i j) _ z .0)) refl
 
-  module _ (book′ sheet′ : List ℕ) (r : Answer) (h : Taken spoilt n book books sheet sheets i j book′ sheet′ r) where
+  module _ (book′ sheet′ : List ℕ) (r : Answer) (h : Taken spoilt n book bookCount sheet sheetCount i j book′ sheet′ r) where
     code-is : r .code ≡ code
     unfolding takeAnswer
     code-is = ap (λ (a : Answer). a .code) (h .answer) ∙ picked code
       where
-        picked : (c : ℕ) → ifDone c (done (length (withWord t (bookIn before))) (length new) (struckCount (sheetIn before) new) (addedCount (sheetIn before) new)) (plain c 0 books sheets) .code ≡ c
+        picked : (c : ℕ) → ifDone c (done (length (withWord t (bookIn before))) (length new) (struckCount (sheetIn before) new) (addedCount (sheetIn before) new)) (plain c 0 bookCount sheetCount) .code ≡ c
         picked zero = refl
         picked (suc c) = refl
 
@@ -90,7 +90,7 @@ module _ (spoilt : Bool) (n : ℕ) (book : List ℕ) (books : ℕ) (sheet : List
         c : code ≡ 0
         c = sym code-is ∙ z
 
-        k : Lent n book books sheet sheets i j
+        k : Lent n book bookCount sheet sheetCount i j
         k = known c
 
         answers : r ≡ done (length (withWord t (bookIn before))) (length new) (struckCount (sheetIn before) new) (addedCount (sheetIn before) new)
@@ -114,7 +114,7 @@ module _ (spoilt : Bool) (n : ℕ) (book : List ℕ) (books : ℕ) (sheet : List
         es : sheet′ ≡ sheet
         es = h .sheet-words ∙ if-refused code _ _ g
 
-        er : r ≡ plain code 0 books sheets
+        er : r ≡ plain code 0 bookCount sheetCount
         er = h .answer ∙ if-refused code _ _ g
 
     -- told: the panel's size is right, and the book tells of the transition
@@ -123,10 +123,10 @@ module _ (spoilt : Bool) (n : ℕ) (book : List ℕ) (books : ℕ) (sheet : List
       where
         k : (not (panelSize n) ≡ false) × (told t (bookIn before) ≡ true)
         k =
-            ends-with-1 (not (panelSize n)) (spoilt || (ltb (length book) books || ltb (length sheet) sheets)) (not (goodBook n (take books book)))
-            (not (goodSheet n (take sheets sheet))) (not (ltb i (2 ^ n) && ltb j (2 ^ n))) (told t (take books book))
-            (against t (take books book)) (ltb (length book) (length (withWord t (take books book)))) (ltb (length sheet) (length new))
-            (sym (take-asks spoilt n book books sheet sheets i j) ∙ sym code-is ∙ e)
+            ends-with-1 (not (panelSize n)) (spoilt || (ltb (length book) bookCount || ltb (length sheet) sheetCount)) (not (goodBook n (take bookCount book)))
+            (not (goodSheet n (take sheetCount sheet))) (not (ltb i (2 ^ n) && ltb j (2 ^ n))) (told t (take bookCount book))
+            (against t (take bookCount book)) (ltb (length book) (length (withWord t (take bookCount book)))) (ltb (length sheet) (length new))
+            (sym (take-asks spoilt n book bookCount sheet sheetCount i j) ∙ sym code-is ∙ e)
 
         sized : (b : Bool) → not b ≡ false → b ≡ true
         sized true q = refl

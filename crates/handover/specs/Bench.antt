@@ -21,22 +21,22 @@ pub data Row : Type 0 where
   -- learn: panel size, words, room for the book and for the sheet
   learns : (n : ℕ) (words : List ℕ) (bookRoom sheetRoom : ℕ) (answer : Answer) (book sheet : List ℕ) → Row
   -- take: panel size, both slices with their counts, state and successor
-  takes : (n : ℕ) (oldBook : List ℕ) (books : ℕ) (oldSheet : List ℕ) (sheets i j : ℕ) (answer : Answer) (book sheet : List ℕ) → Row
+  takes : (n : ℕ) (oldBook : List ℕ) (bookCount : ℕ) (oldSheet : List ℕ) (sheetCount i j : ℕ) (answer : Answer) (book sheet : List ℕ) → Row
   -- join: panel size, the two pieces, both slices
   joins : (n : ℕ) (a b : Piece) (oldBook oldSheet : List ℕ) (answer : Answer) (book sheet : List ℕ) → Row
   -- apply: panel size, the sheet with its count, a state
-  applies : (n : ℕ) (sheet : List ℕ) (sheets x : ℕ) (answer : Answer) (state : ℕ) → Row
+  applies : (n : ℕ) (sheet : List ℕ) (sheetCount x : ℕ) (answer : Answer) (state : ℕ) → Row
 
 -- whatever satisfies the contract of the call has the answer and the words of the row
 abbrev pub RowStands : Row → Type 0
 RowStands (learns n words bookRoom sheetRoom a b s) =
     (r : Answer) (book sheet : List ℕ) → Learned n words bookRoom sheetRoom book sheet r → (r ≡ a) × (book ≡ b) × (sheet ≡ s)
-RowStands (takes n oldBook books oldSheet sheets i j a b s) =
-    (r : Answer) (book sheet : List ℕ) → Taken false n oldBook books oldSheet sheets i j book sheet r → (r ≡ a) × (book ≡ b) × (sheet ≡ s)
+RowStands (takes n oldBook bookCount oldSheet sheetCount i j a b s) =
+    (r : Answer) (book sheet : List ℕ) → Taken false n oldBook bookCount oldSheet sheetCount i j book sheet r → (r ≡ a) × (book ≡ b) × (sheet ≡ s)
 RowStands (joins n p q oldBook oldSheet a b s) =
     (r : Answer) (book sheet : List ℕ) → Joined n p q oldBook oldSheet book sheet r → (r ≡ a) × (book ≡ b) × (sheet ≡ s)
-RowStands (applies n sheet sheets x a y) =
-    (r : Applied) → r ≡ applyAnswer n sheet sheets x → (r .answer ≡ a) × (r .state ≡ y)
+RowStands (applies n sheet sheetCount x a y) =
+    (r : Applied) → r ≡ applyAnswer n sheet sheetCount x → (r .answer ≡ a) × (r .state ≡ y)
 
 -- ---- the test of a row, by computing the call's definition
 
@@ -56,14 +56,14 @@ abbrev pub rowHolds : Row → Bool
 rowHolds (learns n words bookRoom sheetRoom a b s) =
     sameAnswer (runAnswer (learnRun n bookRoom sheetRoom words)) a
     && (sameWords (runBook bookRoom (learnRun n bookRoom sheetRoom words)) b && sameWords (runSheet sheetRoom (learnRun n bookRoom sheetRoom words)) s)
-rowHolds (takes n oldBook books oldSheet sheets i j a b s) =
-    sameAnswer (takeAnswer false n oldBook books oldSheet sheets i j) a
-    && (sameWords (takeBook false n oldBook books oldSheet sheets i j) b && sameWords (takeWords false n oldBook books oldSheet sheets i j) s)
+rowHolds (takes n oldBook bookCount oldSheet sheetCount i j a b s) =
+    sameAnswer (takeAnswer false n oldBook bookCount oldSheet sheetCount i j) a
+    && (sameWords (takeBook false n oldBook bookCount oldSheet sheetCount i j) b && sameWords (takeWords false n oldBook bookCount oldSheet sheetCount i j) s)
 rowHolds (joins n p q oldBook oldSheet a b s) =
     sameAnswer (joinAnswer n p q (length oldBook) (length oldSheet)) a
     && (sameWords (bookAfter n p q oldBook oldSheet) b && sameWords (sheetAfter n p q oldBook oldSheet) s)
-rowHolds (applies n sheet sheets x a y) =
-    sameAnswer (applyAnswer n sheet sheets x .answer) a && eqb (applyAnswer n sheet sheets x .state) y
+rowHolds (applies n sheet sheetCount x a y) =
+    sameAnswer (applyAnswer n sheet sheetCount x .answer) a && eqb (applyAnswer n sheet sheetCount x .state) y
 
 -- every row passes its test
 abbrev pub tableHolds : List Row → Bool

@@ -13,4 +13,4 @@ bookingCode t room book = refuse (told t book) 1 (refuse (against t book) 7 (ref
 
 -- 9 exactly if the new sheet has more rules than its slice
 unfoldable pub innerCode : ℕ → ℕ → List ℕ → ℕ → ℕ
-innerCode n t sheet sheets = refuse (ltb (length sheet) (length (takeSheet n (take sheets sheet) t))) 9 0
+innerCode n t sheet sheetCount = refuse (ltb (length sheet) (length (takeSheet n (take sheetCount sheet) t))) 9 0

@@ -38,20 +38,20 @@ pub fn take_in(
     n: u32,
     t: u32,
     book: &mut [u32],
-    books: usize,
+    book_count: usize,
     sheet: &mut [u32],
-    sheets: usize,
+    sheet_count: usize,
 ) -> Answer
-    requires { ⌜ Ready n t (now book) books (now sheet) sheets ⌝ }
-    ensures { λ r. ⌜ Inner n t (now (book .entry)) books (now (sheet .entry)) sheets (now (book .exit)) (now (sheet .exit)) r ⌝ }
+    requires { ⌜ Ready n t (now book) «book_count» (now sheet) «sheet_count» ⌝ }
+    ensures { λ r. ⌜ Inner n t (now (book .entry)) «book_count» (now (sheet .entry)) «sheet_count» (now (book .exit)) (now (sheet .exit)) r ⌝ }
 {
-    let change = sheet::count_changes(&sheet[..sheets], n, t);
+    let change = sheet::count_changes(&sheet[..sheet_count], n, t);
     let struck = change.struck;
     let added = change.added;
-    if sheet.len() < sheets + added - struck {
-        return plain_answer(9, 0, books, sheets);
+    if sheet.len() < sheet_count + added - struck {
+        return plain_answer(9, 0, book_count, sheet_count);
     }
-    let next = book::put_word(book, books, t);
-    let count = sheet::take_rules(sheet, sheets, n, t);
+    let next = book::put_word(book, book_count, t);
+    let count = sheet::take_rules(sheet, sheet_count, n, t);
     done_answer(next, count, struck, added)
 }

@@ -37,9 +37,9 @@ fn learn_next(
     requires { ⌜ Next n t before (now book) (now sheet) ⌝ }
     ensures { λ r. ⌜ WordLearned n k t before (now (book .entry)) (now (sheet .entry)) r (now (book .exit)) (now (sheet .exit)) ⌝ }
 {
-    let books = before.book_count;
-    let sheets = before.sheet_count;
-    let now = inner::take_in(n, t, book, books, sheet, sheets);
+    let book_count = before.book_count;
+    let sheet_count = before.sheet_count;
+    let now = inner::take_in(n, t, book, book_count, sheet, sheet_count);
     if now.code != 0 {
         return plain_answer(now.code, k, 0, 0);
     }
@@ -66,9 +66,9 @@ fn learn_word(
     if before.code != 0 {
         return before;
     }
-    let books = before.book_count;
+    let book_count = before.book_count;
     let room = book.len();
-    let code = word_code(n, t, &book[..books], room);
+    let code = word_code(n, t, &book[..book_count], room);
     if code == 1 {
         return before;
     }
@@ -137,15 +137,15 @@ fn learn_end(n: u32, so: Answer, book: &mut [u32], sheet: &mut [u32]) -> Answer
         clear_both(book, sheet);
         return so;
     }
-    let books = so.book_count;
-    let sheets = so.sheet_count;
-    let sound = count_reproduced(n, &book[..books], &sheet[..sheets]);
-    if sound < books {
+    let book_count = so.book_count;
+    let sheet_count = so.sheet_count;
+    let sound = count_reproduced(n, &book[..book_count], &sheet[..sheet_count]);
+    if sound < book_count {
         clear_both(book, sheet);
         return plain_answer(10, sound, 0, 0);
     }
-    table::clear_from(book, books);
-    table::clear_from(sheet, sheets);
+    table::clear_from(book, book_count);
+    table::clear_from(sheet, sheet_count);
     so
 }
 

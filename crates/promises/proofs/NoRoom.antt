@@ -103,24 +103,24 @@ start-nine {n = n} {sheet = sheet} q = coded (ap (λ (a : Answer). a .code) (q .
 
 -- ---- take, by itself and through a session
 
-module _ (spoilt : Bool) (n : ℕ) (book : List ℕ) (books : ℕ) (sheet : List ℕ) (sheets i j : ℕ) where
+module _ (spoilt : Bool) (n : ℕ) (book : List ℕ) (bookCount : ℕ) (sheet : List ℕ) (sheetCount i j : ℕ) where
   abbrev t : ℕ
   t = transitionWord i j
 
   abbrev b : List ℕ
-  b = take books book
+  b = take bookCount book
 
   abbrev lent : ℕ
-  lent = givenCode spoilt n book books sheet sheets i j
+  lent = givenCode spoilt n book bookCount sheet sheetCount i j
 
   abbrev entry : ℕ
-  entry = entryCode spoilt n book books sheet sheets i j
+  entry = entryCode spoilt n book bookCount sheet sheetCount i j
 
   -- 2 to 6 are asked first
   lent-most : lent ≤ 6
   unfolding givenCode
   lent-most =
-      go (not (panelSize n)) (spoilt || (ltb (length book) books || ltb (length sheet) sheets)) (not (goodBook n b)) (not (goodSheet n (take sheets sheet))) (not (ltb i (2 ^ n) && ltb j (2 ^ n)))
+      go (not (panelSize n)) (spoilt || (ltb (length book) bookCount || ltb (length sheet) sheetCount)) (not (goodBook n b)) (not (goodSheet n (take sheetCount sheet))) (not (ltb i (2 ^ n) && ltb j (2 ^ n)))
     where
       go : (v w x y z : Bool) → refuse v 2 (refuse w 3 (refuse x 4 (refuse y 5 (refuse z 6 0)))) ≤ 6
       go v w x y z =
@@ -157,51 +157,51 @@ module _ (spoilt : Bool) (n : ℕ) (book : List ℕ) (books : ℕ) (sheet : List
   unfolding entryCode
   entry-most = most (not (eqb lent 0)) lent (bookingCode t (length book) b) 8 (omega (arith, lent-most)) booking-most
 
-  inner-9 : (innerCode n t sheet sheets ≡ 9) ↔ (length sheet < length (takeSheet n (take sheets sheet) t))
+  inner-9 : (innerCode n t sheet sheetCount ≡ 9) ↔ (length sheet < length (takeSheet n (take sheetCount sheet) t))
   unfolding innerCode
-  inner-9 = exceeded (length sheet) (length (takeSheet n (take sheets sheet) t)) 9 0 (λ q. omega (arith, q))
+  inner-9 = exceeded (length sheet) (length (takeSheet n (take sheetCount sheet) t)) 9 0 (λ q. omega (arith, q))
 
   -- the new sheet is asked for 9 alone
-  inner-only : innerCode n t sheet sheets ≡ 8 → ⊥
+  inner-only : innerCode n t sheet sheetCount ≡ 8 → ⊥
   unfolding innerCode
   inner-only e =
-      let k = rung (ltb (length sheet) (length (takeSheet n (take sheets sheet) t))) 9 0 8 (λ q. omega (arith, q)) .0 e in
+      let k = rung (ltb (length sheet) (length (takeSheet n (take sheetCount sheet) t))) 9 0 8 (λ q. omega (arith, q)) .0 e in
       omega (arith, k .1)
 
-  take-ladder-8 : (takeCode spoilt n book books sheet sheets i j ≡ 8) ↔ ((lent ≡ 0) × (told t b ≡ false) × (against t b ≡ false) × (length book < length (withWord t b)))
+  take-ladder-8 : (takeCode spoilt n book bookCount sheet sheetCount i j ≡ 8) ↔ ((lent ≡ 0) × (told t b ≡ false) × (against t b ≡ false) × (length book < length (withWord t b)))
   unfolding takeCode
   take-ladder-8 = (
-    λ e. go (first entry (innerCode n t sheet sheets) 8 e),
-    λ k. let e = entry-8 .1 k in sym (refuse-first entry (innerCode n t sheet sheets) (λ q. omega (arith, e, q))) ∙ e,
+    λ e. go (first entry (innerCode n t sheet sheetCount) 8 e),
+    λ k. let e = entry-8 .1 k in sym (refuse-first entry (innerCode n t sheet sheetCount) (λ q. omega (arith, e, q))) ∙ e,
   )
     where
-      go : (entry ≡ 8) ⊎ ((entry ≡ 0) × (innerCode n t sheet sheets ≡ 8)) → (lent ≡ 0) × (told t b ≡ false) × (against t b ≡ false) × (length book < length (withWord t b))
+      go : (entry ≡ 8) ⊎ ((entry ≡ 0) × (innerCode n t sheet sheetCount ≡ 8)) → (lent ≡ 0) × (told t b ≡ false) × (against t b ≡ false) × (length book < length (withWord t b))
       go (inl e) = entry-8 .0 e
       go (inr k) = absurd (inner-only (k .1))
 
-  take-ladder-9 : (takeCode spoilt n book books sheet sheets i j ≡ 9) ↔ ((entry ≡ 0) × (length sheet < length (takeSheet n (take sheets sheet) t)))
+  take-ladder-9 : (takeCode spoilt n book bookCount sheet sheetCount i j ≡ 9) ↔ ((entry ≡ 0) × (length sheet < length (takeSheet n (take sheetCount sheet) t)))
   unfolding takeCode
   take-ladder-9 = (
-    λ e. go (first entry (innerCode n t sheet sheets) 9 e),
-    λ k. refuse-after entry (innerCode n t sheet sheets) (k .0) ∙ inner-9 .1 (k .1),
+    λ e. go (first entry (innerCode n t sheet sheetCount) 9 e),
+    λ k. refuse-after entry (innerCode n t sheet sheetCount) (k .0) ∙ inner-9 .1 (k .1),
   )
     where
-      go : (entry ≡ 9) ⊎ ((entry ≡ 0) × (innerCode n t sheet sheets ≡ 9)) → (entry ≡ 0) × (length sheet < length (takeSheet n (take sheets sheet) t))
+      go : (entry ≡ 9) ⊎ ((entry ≡ 0) × (innerCode n t sheet sheetCount ≡ 9)) → (entry ≡ 0) × (length sheet < length (takeSheet n (take sheetCount sheet) t))
       go (inl e) = absurd (omega (arith, e, entry-most))
       go (inr k) = (k .0, inner-9 .0 (k .1))
 
-  take-code : takeAnswer spoilt n book books sheet sheets i j .code ≡ takeCode spoilt n book books sheet sheets i j
+  take-code : takeAnswer spoilt n book bookCount sheet sheetCount i j .code ≡ takeCode spoilt n book bookCount sheet sheetCount i j
   unfolding takeAnswer
   take-code =
-      picked (takeCode spoilt n book books sheet sheets i j)
-      (done (length (withWord t b)) (length (takeSheet n (take sheets sheet) t)) (struckCount (take sheets sheet) (takeSheet n (take sheets sheet) t)) (addedCount (take sheets sheet) (takeSheet n (take sheets sheet) t)))
-      0 books sheets refl
+      picked (takeCode spoilt n book bookCount sheet sheetCount i j)
+      (done (length (withWord t b)) (length (takeSheet n (take sheetCount sheet) t)) (struckCount (take sheetCount sheet) (takeSheet n (take sheetCount sheet) t)) (addedCount (take sheetCount sheet) (takeSheet n (take sheetCount sheet) t)))
+      0 bookCount sheetCount refl
 
-  module _ {book′ sheet′ : List ℕ} {r : Answer} (q : Taken spoilt n book books sheet sheets i j book′ sheet′ r) where
-    pub take-eight : TakeEight spoilt n book books sheet sheets i j r
+  module _ {book′ sheet′ : List ℕ} {r : Answer} (q : Taken spoilt n book bookCount sheet sheetCount i j book′ sheet′ r) where
+    pub take-eight : TakeEight spoilt n book bookCount sheet sheetCount i j r
     take-eight = coded (ap (λ (a : Answer). a .code) (q .answer) ∙ take-code) take-ladder-8
 
-    pub take-nine : TakeNine spoilt n book books sheet sheets i j r
+    pub take-nine : TakeNine spoilt n book bookCount sheet sheetCount i j r
     take-nine = coded (ap (λ (a : Answer). a .code) (q .answer) ∙ take-code) take-ladder-9
 
 module _ (s : Session) (book sheet : List ℕ) (i j : ℕ) where

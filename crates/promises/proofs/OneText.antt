@@ -36,14 +36,14 @@ one-text p q e f = (p .prints .long ∙ ap length texts ∙ sym (q .prints .long
     from : (w : ℕ) → Mem w (q .ts) → Mem w (p .ts)
     from w m = subst (λ (z : List ℕ). Mem w z) (sym (p .recorded .words)) (f .back w (subst (λ (z : List ℕ). Mem w z) (q .recorded .words) m))
 
-    sheets : p .s ≡ q .s
-    sheets =
+    sheetCount : p .s ≡ q .s
+    sheetCount =
         increasing-unique (p .s) (q .s) (p .rising) (q .rising)
         (λ w m. q .all-prime w (prime-same (p .ts) (q .ts) to from (q .n) w (subst (λ (k : ℕ). Prime k (p .ts) w) e (p .only-prime w m))))
         (λ w m. p .all-prime w (prime-same (q .ts) (p .ts) from to (p .n) w (subst (λ (k : ℕ). Prime k (q .ts) w) (sym e) (q .only-prime w m))))
 
     texts : sheetText (p .n) (p .s) ≡ sheetText (q .n) (q .s)
-    texts = ap (λ (k : ℕ). sheetText k (p .s)) e ∙ ap (sheetText (q .n)) sheets
+    texts = ap (λ (k : ℕ). sheetText k (p .s)) e ∙ ap (sheetText (q .n)) sheetCount
 
 -- and back: the bytes of a printed sheet tell the panel size and the sheet
 pub one-sheet : {t u out out₁ o o₁ : List ℕ} {r r₁ : ℕ} (p : SheetPrinted t out o r) (q : SheetPrinted u out₁ o₁ r₁) → take r o ≡ take r₁ o₁ → (p .n ≡ q .n) × (p .s ≡ q .s)

@@ -34,14 +34,14 @@ FreshNine n sheet r = (r .code ≡ 9) ↔ ((panelSize n ≡ true) × (length she
 
 -- 8: none of 2 to 6 applies, nor 1 or 7, and the book with the transition needs more words than its slice
 abbrev pub TakeEight : Bool → ℕ → List ℕ → ℕ → List ℕ → ℕ → ℕ → ℕ → Answer → Type 0
-TakeEight spoilt n book books sheet sheets i j r =
-    (r .code ≡ 8) ↔ ((givenCode spoilt n book books sheet sheets i j ≡ 0) × (told (transitionWord i j) (take books book) ≡ false)
-    × (against (transitionWord i j) (take books book) ≡ false) × (length book < length (withWord (transitionWord i j) (take books book))))
+TakeEight spoilt n book bookCount sheet sheetCount i j r =
+    (r .code ≡ 8) ↔ ((givenCode spoilt n book bookCount sheet sheetCount i j ≡ 0) × (told (transitionWord i j) (take bookCount book) ≡ false)
+    × (against (transitionWord i j) (take bookCount book) ≡ false) × (length book < length (withWord (transitionWord i j) (take bookCount book))))
 
 -- 9: none of 1 to 8 applies, and the sheet with the transition taken has more rules than its slice
 abbrev pub TakeNine : Bool → ℕ → List ℕ → ℕ → List ℕ → ℕ → ℕ → ℕ → Answer → Type 0
-TakeNine spoilt n book books sheet sheets i j r =
-    (r .code ≡ 9) ↔ ((entryCode spoilt n book books sheet sheets i j ≡ 0) × (length sheet < length (takeSheet n (take sheets sheet) (transitionWord i j))))
+TakeNine spoilt n book bookCount sheet sheetCount i j r =
+    (r .code ≡ 9) ↔ ((entryCode spoilt n book bookCount sheet sheetCount i j ≡ 0) × (length sheet < length (takeSheet n (take sheetCount sheet) (transitionWord i j))))
 
 -- through a session: with its n and counts, and 3 also where its totals do not fit
 abbrev pub SessionEight : Session → List ℕ → List ℕ → ℕ → ℕ → Answer → Type 0

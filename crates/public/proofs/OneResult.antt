@@ -13,11 +13,11 @@ use Rattle.public.specs.PublicCalls.{Call, fresh, take, learn, join, app
 
 pub one-result : (c : Call) (r q : Result c) → Contract c r → Contract c q → r ≡ q
 one-result (fresh n sheet) r q x y = let e = fresh-determined n sheet (r .1) (q .1) (r .0) (q .0) x y in λ i. (e .0 i, e .1 i)
-one-result (take n book books sheet sheets i j) r q x y =
-    let e = take-determined false n book books sheet sheets i j (r .1) (q .1) (r .2) (q .2) (r .0) (q .0) x y in λ i. (e .0 i, e .1 i, e .2 i)
+one-result (take n book bookCount sheet sheetCount i j) r q x y =
+    let e = take-determined false n book bookCount sheet sheetCount i j (r .1) (q .1) (r .2) (q .2) (r .0) (q .0) x y in λ i. (e .0 i, e .1 i, e .2 i)
 one-result (learn n words book sheet) r q x y = let e = learn-determined n words _ _ (r .1) (q .1) (r .2) (q .2) (r .0) (q .0) x y in λ i. (e .0 i, e .1 i, e .2 i)
 one-result (join n a b book sheet) r q x y = let e = joined-unique n a b book sheet (r .0) (q .0) (r .1) (r .2) (q .1) (q .2) x y in λ i. (e .0 i, e .1 i, e .2 i)
-one-result (apply n sheet sheets z) r q x y = apply-determined n sheet sheets z r q x y
+one-result (apply n sheet sheetCount z) r q x y = apply-determined n sheet sheetCount z r q x y
 one-result (session-start n sheet) r q x y = let e = start-determined n sheet (r .1) (q .1) (r .0) (q .0) x y in λ i. (e .0 i, e .1 i)
 one-result (session-take s book sheet i j) r q x y =
     let e = session-determined s book sheet i j (r .1) (r .2) (q .1) (q .2) (r .0) (q .0) x y in λ i. (e .0 i, e .1 i, e .2 i)

@@ -24,10 +24,10 @@ use Rattle.program.specs.Program.{Runs}
 -- a call with its inputs, the lent slices as they are before it
 pub data Call : Type 0 where
   fresh : (n : ℕ) (sheet : List ℕ) → Call
-  take : (n : ℕ) (book : List ℕ) (books : ℕ) (sheet : List ℕ) (sheets i j : ℕ) → Call
+  take : (n : ℕ) (book : List ℕ) (bookCount : ℕ) (sheet : List ℕ) (sheetCount i j : ℕ) → Call
   learn : (n : ℕ) (words book sheet : List ℕ) → Call
   join : (n : ℕ) (a b : Piece) (book sheet : List ℕ) → Call
-  apply : (n : ℕ) (sheet : List ℕ) (sheets x : ℕ) → Call
+  apply : (n : ℕ) (sheet : List ℕ) (sheetCount x : ℕ) → Call
   session-start : (n : ℕ) (sheet : List ℕ) → Call
   session-take : (s : Session) (book sheet : List ℕ) (i j : ℕ) → Call
   session-take-lent : (s : Session) (book sheet : List ℕ) (i j : ℕ) → Call
@@ -38,10 +38,10 @@ pub data Call : Type 0 where
 -- what it gives: the answer first, then what is left in each slice or record
 abbrev pub Result : Call → Type 0
 Result (fresh n sheet) = Answer × List ℕ
-Result (take n book books sheet sheets i j) = Answer × List ℕ × List ℕ
+Result (take n book bookCount sheet sheetCount i j) = Answer × List ℕ × List ℕ
 Result (learn n words book sheet) = Answer × List ℕ × List ℕ
 Result (join n a b book sheet) = Answer × List ℕ × List ℕ
-Result (apply n sheet sheets x) = Applied
+Result (apply n sheet sheetCount x) = Applied
 Result (session-start n sheet) = Outcome × List ℕ
 Result (session-take s book sheet i j) = Outcome × List ℕ × List ℕ
 Result (session-take-lent s book sheet i j) = Answer × Session × List ℕ × List ℕ
@@ -52,10 +52,10 @@ Result (run input list book sheet output) = ℕ × List ℕ × List ℕ × List 
 -- what the function of src/ ensures, which is stated by this
 abbrev pub Contract : (c : Call) → Result c → Type 0
 Contract (fresh n sheet) r = Fresh n sheet (r .1) (r .0)
-Contract (take n book books sheet sheets i j) r = Taken false n book books sheet sheets i j (r .1) (r .2) (r .0)
+Contract (take n book bookCount sheet sheetCount i j) r = Taken false n book bookCount sheet sheetCount i j (r .1) (r .2) (r .0)
 Contract (learn n words book sheet) r = Learned n words (length book) (length sheet) (r .1) (r .2) (r .0)
 Contract (join n a b book sheet) r = Joined n a b book sheet (r .1) (r .2) (r .0)
-Contract (apply n sheet sheets x) r = r ≡ applyAnswer n sheet sheets x
+Contract (apply n sheet sheetCount x) r = r ≡ applyAnswer n sheet sheetCount x
 Contract (session-start n sheet) r = Starts n sheet (r .1) (r .0)
 Contract (session-take s book sheet i j) r = Takes s book sheet i j (r .1) (r .2) (r .0)
 Contract (session-take-lent s book sheet i j) r = TakesLent s book sheet i j (r .1) (r .2) (r .3) (r .0)

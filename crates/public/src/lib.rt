@@ -21,13 +21,13 @@ pub fn take(
     i: u32,
     j: u32,
     book: &mut [u32],
-    books: usize,
+    book_count: usize,
     sheet: &mut [u32],
-    sheets: usize,
+    sheet_count: usize,
 ) -> Answer
-    ensures { λ r. ⌜ Contract (take n (now (book .entry)) books (now (sheet .entry)) sheets i j) (r, now (book .exit), now (sheet .exit)) ⌝ }
+    ensures { λ r. ⌜ Contract (take n (now (book .entry)) «book_count» (now (sheet .entry)) «sheet_count» i j) (r, now (book .exit), now (sheet .exit)) ⌝ }
 {
-    calls::take(n, i, j, book, books, sheet, sheets)
+    calls::take(n, i, j, book, book_count, sheet, sheet_count)
 }
 
 // Learns a list of transition words.
@@ -69,10 +69,10 @@ pub fn join(
 }
 
 // The state that follows x by the sheet.
-pub fn apply(n: u32, sheet: &[u32], sheets: usize, x: u32) -> Applied
-    ensures { λ r. ⌜ Contract (apply n (now (sheet .entry)) sheets x) r ⌝ }
+pub fn apply(n: u32, sheet: &[u32], sheet_count: usize, x: u32) -> Applied
+    ensures { λ r. ⌜ Contract (apply n (now (sheet .entry)) «sheet_count» x) r ⌝ }
 {
-    calls::apply(n, sheet, sheets, x)
+    calls::apply(n, sheet, sheet_count, x)
 }
 
 // Starts a session on a fresh sheet.

@@ -25,10 +25,10 @@ use Rattle.inner.specs.Inner.{Ready}
 use Rattle.inner.proofs.Inner.{count-is, added-few, sheets-few}
 
 -- a take that is not refused was not spoilt
-lent-unspoilt : (spoilt : Bool) (n : ℕ) (book : List ℕ) (books : ℕ) (sheet : List ℕ) (sheets i j : ℕ) → givenCode spoilt n book books sheet sheets i j ≡ 0 → spoilt ≡ false
+lent-unspoilt : (spoilt : Bool) (n : ℕ) (book : List ℕ) (bookCount : ℕ) (sheet : List ℕ) (sheetCount i j : ℕ) → givenCode spoilt n book bookCount sheet sheetCount i j ≡ 0 → spoilt ≡ false
 unfolding givenCode
-lent-unspoilt spoilt n book books sheet sheets i j e =
-    or-no spoilt (ltb (length book) books || ltb (length sheet) sheets) (refuse-none (spoilt || (ltb (length book) books || ltb (length sheet) sheets)) 2 _ (refuse-none (not (panelSize n)) 1 _ e .1) .0)
+lent-unspoilt spoilt n book bookCount sheet sheetCount i j e =
+    or-no spoilt (ltb (length book) bookCount || ltb (length sheet) sheetCount) (refuse-none (spoilt || (ltb (length book) bookCount || ltb (length sheet) sheetCount)) 2 _ (refuse-none (not (panelSize n)) 1 _ e .1) .0)
   where
     or-no : (a b : Bool) → (a || b) ≡ false → a ≡ false
     or-no true b p = p

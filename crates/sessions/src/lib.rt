@@ -92,9 +92,9 @@ impl Session {
     {
         let spoilt = !self.totals_fit();
         let n = self.n;
-        let books = self.book_count;
-        let sheets = self.sheet_count;
-        let answer = calls::take_unless(spoilt, n, i, j, book, books, sheet, sheets);
+        let book_count = self.book_count;
+        let sheet_count = self.sheet_count;
+        let answer = calls::take_unless(spoilt, n, i, j, book, book_count, sheet, sheet_count);
         let session = self.after(answer);
         Outcome { answer, session }
     }
