@@ -9,10 +9,10 @@ ghost use Rattle.prime.specs.Sheets.{goodSheet, joinSheet};
 ghost use Rattle.joining.specs.Joining.{piece, exceeds, piecesCode, joinCode, Fills, Joined};
 
 // A count of a piece exceeds its slice.
-fn exceeds_slice(book: &[u32], books: usize, sheet: &[u32], sheets: usize) -> bool
-    ensures { λ r. ⌜ r ≡ exceeds (piece (now (book .entry)) books (now (sheet .entry)) sheets) ⌝ }
+fn exceeds_slice(book: &[u32], book_count: usize, sheet: &[u32], sheet_count: usize) -> bool
+    ensures { λ r. ⌜ r ≡ exceeds (piece (now (book .entry)) «book_count» (now (sheet .entry)) «sheet_count») ⌝ }
 {
-    book.len() < books || sheet.len() < sheets
+    book.len() < book_count || sheet.len() < sheet_count
 }
 
 // Both are good books.
@@ -43,29 +43,29 @@ fn are_good_sheets(n: u32, a: &[u32], b: &[u32]) -> bool
 fn pieces_code(
     n: u32,
     a_book: &[u32],
-    a_books: usize,
+    a_book_count: usize,
     a_sheet: &[u32],
-    a_sheets: usize,
+    a_sheet_count: usize,
     b_book: &[u32],
-    b_books: usize,
+    b_book_count: usize,
     b_sheet: &[u32],
-    b_sheets: usize,
+    b_sheet_count: usize,
 ) -> u32
-    ensures { λ r. ⌜ r ≡ piecesCode n (piece (now («a_book» .entry)) «a_books» (now («a_sheet» .entry)) «a_sheets») (piece (now («b_book» .entry)) «b_books» (now («b_sheet» .entry)) «b_sheets») 0 ⌝ }
+    ensures { λ r. ⌜ r ≡ piecesCode n (piece (now («a_book» .entry)) «a_book_count» (now («a_sheet» .entry)) «a_sheet_count») (piece (now («b_book» .entry)) «b_book_count» (now («b_sheet» .entry)) «b_sheet_count») 0 ⌝ }
 {
     if !panel::is_panel_size(n) {
         return 2;
     }
-    if exceeds_slice(a_book, a_books, a_sheet, a_sheets) {
+    if exceeds_slice(a_book, a_book_count, a_sheet, a_sheet_count) {
         return 3;
     }
-    if exceeds_slice(b_book, b_books, b_sheet, b_sheets) {
+    if exceeds_slice(b_book, b_book_count, b_sheet, b_sheet_count) {
         return 3;
     }
-    if !are_good_books(n, &a_book[..a_books], &b_book[..b_books]) {
+    if !are_good_books(n, &a_book[..a_book_count], &b_book[..b_book_count]) {
         return 4;
     }
-    if !are_good_sheets(n, &a_sheet[..a_sheets], &b_sheet[..b_sheets]) {
+    if !are_good_sheets(n, &a_sheet[..a_sheet_count], &b_sheet[..b_sheet_count]) {
         return 5;
     }
     0
@@ -75,41 +75,41 @@ fn pieces_code(
 fn join_code(
     n: u32,
     a_book: &[u32],
-    a_books: usize,
+    a_book_count: usize,
     a_sheet: &[u32],
-    a_sheets: usize,
+    a_sheet_count: usize,
     b_book: &[u32],
-    b_books: usize,
+    b_book_count: usize,
     b_sheet: &[u32],
-    b_sheets: usize,
-    books: usize,
-    sheets: usize,
+    b_sheet_count: usize,
+    book_room: usize,
+    sheet_room: usize,
 ) -> u32
-    ensures { λ r. ⌜ r ≡ joinCode n (piece (now («a_book» .entry)) «a_books» (now («a_sheet» .entry)) «a_sheets») (piece (now («b_book» .entry)) «b_books» (now («b_sheet» .entry)) «b_sheets») books sheets ⌝ }
+    ensures { λ r. ⌜ r ≡ joinCode n (piece (now («a_book» .entry)) «a_book_count» (now («a_sheet» .entry)) «a_sheet_count») (piece (now («b_book» .entry)) «b_book_count» (now («b_sheet» .entry)) «b_sheet_count») «book_room» «sheet_room» ⌝ }
 {
     let code = pieces_code(
         n,
         a_book,
-        a_books,
+        a_book_count,
         a_sheet,
-        a_sheets,
+        a_sheet_count,
         b_book,
-        b_books,
+        b_book_count,
         b_sheet,
-        b_sheets,
+        b_sheet_count,
     );
     if code != 0 {
         return code;
     }
-    let left = &a_book[..a_books];
-    let right = &b_book[..b_books];
+    let left = &a_book[..a_book_count];
+    let right = &b_book[..b_book_count];
     if book::do_clash(left, right) {
         return 7;
     }
-    if books < book::count_union(left, right) {
+    if book_room < book::count_union(left, right) {
         return 8;
     }
-    if sheets < walk::count_join(n, &a_sheet[..a_sheets], &b_sheet[..b_sheets]) {
+    if sheet_room < walk::count_join(n, &a_sheet[..a_sheet_count], &b_sheet[..b_sheet_count]) {
         return 9;
     }
     0

@@ -41,28 +41,28 @@ pub fn learn(n: u32, words: &[u32], book: &mut [u32], sheet: &mut [u32]) -> Answ
 pub fn join(
     n: u32,
     a_book: &[u32],
-    a_books: usize,
+    a_book_count: usize,
     a_sheet: &[u32],
-    a_sheets: usize,
+    a_sheet_count: usize,
     b_book: &[u32],
-    b_books: usize,
+    b_book_count: usize,
     b_sheet: &[u32],
-    b_sheets: usize,
+    b_sheet_count: usize,
     book: &mut [u32],
     sheet: &mut [u32],
 ) -> Answer
-    ensures { λ r. ⌜ Contract (join n (piece (now («a_book» .entry)) «a_books» (now («a_sheet» .entry)) «a_sheets») (piece (now («b_book» .entry)) «b_books» (now («b_sheet» .entry)) «b_sheets») (now (book .entry)) (now (sheet .entry))) (r, now (book .exit), now (sheet .exit)) ⌝ }
+    ensures { λ r. ⌜ Contract (join n (piece (now («a_book» .entry)) «a_book_count» (now («a_sheet» .entry)) «a_sheet_count») (piece (now («b_book» .entry)) «b_book_count» (now («b_sheet» .entry)) «b_sheet_count») (now (book .entry)) (now (sheet .entry))) (r, now (book .exit), now (sheet .exit)) ⌝ }
 {
     joining::join(
         n,
         a_book,
-        a_books,
+        a_book_count,
         a_sheet,
-        a_sheets,
+        a_sheet_count,
         b_book,
-        b_books,
+        b_book_count,
         b_sheet,
-        b_sheets,
+        b_sheet_count,
         book,
         sheet,
     )

@@ -77,11 +77,11 @@ module _ (n : ℕ) (sheet : List ℕ) (count room : ℕ) where
           code-0 f = rw (p, le-ltb (length sheet) count c, g, long, le-ltb room (textLength sheetTable sheetWord n count) (leb-true _ room (fits-is ∙ f)))
 
 -- code 0: the count is in the slice, and the text in the room
-pub record Writable (n : ℕ) (sheet : List ℕ) (count room : ℕ) : Type 0 where
+pub record RoomFor (n : ℕ) (sheet : List ℕ) (count room : ℕ) : Type 0 where
   pub counted : count ≤ length sheet
   pub fits : length (sheetText n (take count sheet)) ≤ room
 
-pub ready : (n : ℕ) (sheet : List ℕ) (count room : ℕ) → writeCode n sheet count room ≡ 0 → Writable n sheet count room
+pub ready : (n : ℕ) (sheet : List ℕ) (count room : ℕ) → writeCode n sheet count room ≡ 0 → RoomFor n sheet count room
 unfolding writeCode
 ready n sheet count room h =
     let p = refuse-none (not (panelSize n)) 1 _ h in
