@@ -115,21 +115,21 @@ module _ (n bookRoom sheetRoom : ℕ) where
       book-length : length (bookOf (ps ++ t ∷ [])) ≡ length (withWord t b)
       book-length = ap length (sym (taken .is-book))
 
-    word-ended : (r : Run) → Way n bookRoom sheetRoom (length ps) t b s x y r → Ended (ps ++ t ∷ []) r
-    word-ended _ (six e) = stopped 6 (invalid e)
-    word-ended _ (passed-over v e) =
+    word-ended : (c : ℕ) (r : Run) → Way n bookRoom sheetRoom (length ps) t b s x y c r → Ended (ps ++ t ∷ []) r
+    word-ended _ _ (six e) = stopped 6 (invalid e)
+    word-ended _ _ (passed-over v e) =
         went-more ps b s x y w t b s x y (again n t ps b s x y (w .read) e) (w .book-in) (omega (arith, ap length (w .read .is-sheet), w .sheets-in ps [] (sym (append-nil ps))))
-    word-ended _ (seven v h o) = stopped 7 (another v o)
-    word-ended _ (eight v o g) = stopped 8 (book-full (agrees v o) (omega (arith, g, book-length v o)))
-    word-ended _ (nine v o f g) =
+    word-ended _ _ (seven v h o) = stopped 7 (another v o)
+    word-ended _ _ (eight v o g) = stopped 8 (book-full (agrees v o) (omega (arith, g, book-length v o)))
+    word-ended _ _ (nine v o f g) =
         stopped 9 (sheet-full (agrees v o) (omega (arith, f, book-length v o)) (omega (arith, g, ap length (taken v o .is-sheet))))
-    word-ended _ (taken-up v o f g) = went-more ps b s x y w t (withWord t b) (takeSheet n s t) (x + struckCount s (takeSheet n s t)) (y + addedCount s (takeSheet n s t)) (taken v o) f g
+    word-ended _ _ (taken-up v o f g) = went-more ps b s x y w t (withWord t b) (takeSheet n s t) (x + struckCount s (takeSheet n s t)) (y + addedCount s (takeSheet n s t)) (taken v o) f g
 
   -- what learn's run comes to
   run-ended : (ts : List ℕ) → Ended ts (learnRun n bookRoom sheetRoom ts)
   run-ended ts =
       subst (Ended ts) (sym (run-words n bookRoom sheetRoom ts))
-      (run-keeps n bookRoom sheetRoom Ended start-ended (λ ps t c p q. refused-more ps (t ∷ []) c p q) (λ ps t b s x y r w q. word-ended ps t b s x y w r q) ts)
+      (run-keeps n bookRoom sheetRoom Ended start-ended (λ ps t c p q. refused-more ps (t ∷ []) c p q) (λ ps t b s x y c r w q. word-ended ps t b s x y w c r q) ts)
 
   pub run-learnable : {ts b s : List ℕ} {x y : ℕ} → learnRun n bookRoom sheetRoom ts ≡ going b s x y → Learnable n ts bookRoom sheetRoom
   run-learnable {ts = ts} {b = b} {s = s} {x = x} {y = y} e = went-learnable ts b s x y (subst (Ended ts) e (run-ended ts))

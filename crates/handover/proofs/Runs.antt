@@ -86,13 +86,13 @@ module _ (n t : ℕ) (ts b s : List ℕ) (x y : ℕ) (l : Read n ts b s x y) whe
   }
 
   -- on every way through the word
-  word : (bookRoom sheetRoom k : ℕ) (r : Run) → Way n bookRoom sheetRoom k t b s x y r → After n (ts ++ t ∷ []) r
-  word bookRoom sheetRoom k _ (six e) = (omega arith, omega arith)
-  word bookRoom sheetRoom k _ (passed-over v e) = again e
-  word bookRoom sheetRoom k _ (seven v e f) = (omega arith, omega arith)
-  word bookRoom sheetRoom k _ (eight v e f) = (omega arith, omega arith)
-  word bookRoom sheetRoom k _ (nine v e f g) = (omega arith, omega arith)
-  word bookRoom sheetRoom k _ (taken-up v e f g) = one-more v e
+  word : (bookRoom sheetRoom k c : ℕ) (r : Run) → Way n bookRoom sheetRoom k t b s x y c r → After n (ts ++ t ∷ []) r
+  word bookRoom sheetRoom k _ _ (six e) = (omega arith, omega arith)
+  word bookRoom sheetRoom k _ _ (passed-over v e) = again e
+  word bookRoom sheetRoom k _ _ (seven v e f) = (omega arith, omega arith)
+  word bookRoom sheetRoom k _ _ (eight v e f) = (omega arith, omega arith)
+  word bookRoom sheetRoom k _ _ (nine v e f g) = (omega arith, omega arith)
+  word bookRoom sheetRoom k _ _ (taken-up v e f g) = one-more v e
 
 -- ---- all words
 
@@ -114,7 +114,7 @@ module _ (n bookRoom sheetRoom : ℕ) where
 
   words-run : (ts : List ℕ) → After n ts (learnWords n bookRoom sheetRoom 0 ts (learnStart n sheetRoom))
   words-run ts =
-      run-keeps n bookRoom sheetRoom (After n) start-run (λ ps t c p f. f) (λ ps t b s x y r l w. word n t ps b s x y l bookRoom sheetRoom (length ps) r w) ts
+      run-keeps n bookRoom sheetRoom (After n) start-run (λ ps t c p f. f) (λ ps t b s x y c r l w. word n t ps b s x y l bookRoom sheetRoom (length ps) c r w) ts
 
   -- ---- the check at the end passes
 

@@ -11,7 +11,9 @@ use Rattle.panel.specs.Masks.{panelSize}
 use Rattle.panel.specs.Transitions.{validTransition}
 use Rattle.prime.specs.Sheets.{freshSheet, takeSheet, struckCount, addedCount}
 use Rattle.book.specs.Books.{told, against, withWord}
-use Rattle.learning.specs.Learn.{Run, going, refused, taken, learnStep, learnWords, learnStart}
+use Rattle.inner.specs.Booking.{bookingCode}
+use Rattle.answers.specs.Answers.{refuse}
+use Rattle.learning.specs.Learn.{Run, going, refused, taken, wordCode, learnStep, learnWords, learnStart}
 
 -- ---- the start
 
@@ -32,24 +34,26 @@ opening n sheetRoom = go (panelSize n) (ltb sheetRoom n) refl refl
 
 -- ---- a word
 
--- the run after the word t, number k, where book and sheet were b and s, and the sums x and y
-pub data Way (n bookRoom sheetRoom k t : ℕ) (b s : List ℕ) (x y : ℕ) : Run → Type 0 where
-  six : validTransition n t ≡ false → Way n bookRoom sheetRoom k t b s x y (refused 6 k)
-  passed-over : validTransition n t ≡ true → told t b ≡ true → Way n bookRoom sheetRoom k t b s x y (going b s x y)
-  seven : validTransition n t ≡ true → told t b ≡ false → against t b ≡ true → Way n bookRoom sheetRoom k t b s x y (refused 7 k)
-  eight : validTransition n t ≡ true → against t b ≡ false → bookRoom < length (withWord t b) → Way n bookRoom sheetRoom k t b s x y (refused 8 k)
+-- the code of the word t, number k, before it is taken, and the run after it, where book and sheet were b and s, and the sums x and y
+pub data Way (n bookRoom sheetRoom k t : ℕ) (b s : List ℕ) (x y : ℕ) : ℕ → Run → Type 0 where
+  six : validTransition n t ≡ false → Way n bookRoom sheetRoom k t b s x y 6 (refused 6 k)
+  passed-over : validTransition n t ≡ true → told t b ≡ true → Way n bookRoom sheetRoom k t b s x y 1 (going b s x y)
+  seven : validTransition n t ≡ true → told t b ≡ false → against t b ≡ true → Way n bookRoom sheetRoom k t b s x y 7 (refused 7 k)
+  eight : validTransition n t ≡ true → against t b ≡ false → bookRoom < length (withWord t b) → Way n bookRoom sheetRoom k t b s x y 8 (refused 8 k)
   nine : validTransition n t ≡ true → against t b ≡ false → length (withWord t b) ≤ bookRoom → sheetRoom < length (takeSheet n s t)
-      → Way n bookRoom sheetRoom k t b s x y (refused 9 k)
+      → Way n bookRoom sheetRoom k t b s x y 0 (refused 9 k)
   taken-up : validTransition n t ≡ true → against t b ≡ false → length (withWord t b) ≤ bookRoom → length (takeSheet n s t) ≤ sheetRoom
-      → Way n bookRoom sheetRoom k t b s x y (going (withWord t b) (takeSheet n s t) (x + struckCount s (takeSheet n s t)) (y + addedCount s (takeSheet n s t)))
+      → Way n bookRoom sheetRoom k t b s x y 0 (going (withWord t b) (takeSheet n s t) (x + struckCount s (takeSheet n s t)) (y + addedCount s (takeSheet n s t)))
 
-pub way : (n bookRoom sheetRoom k t : ℕ) (b s : List ℕ) (x y : ℕ) → Way n bookRoom sheetRoom k t b s x y (learnStep n bookRoom sheetRoom k t (going b s x y))
-unfolding learnStep taken
+pub way : (n bookRoom sheetRoom k t : ℕ) (b s : List ℕ) (x y : ℕ)
+    → Way n bookRoom sheetRoom k t b s x y (wordCode n t bookRoom b) (learnStep n bookRoom sheetRoom k t (going b s x y))
+unfolding learnStep taken wordCode bookingCode
 way n bookRoom sheetRoom k t b s x y =
     go (validTransition n t) (told t b) (against t b) (ltb bookRoom (length (withWord t b))) (ltb sheetRoom (length (takeSheet n s t))) refl refl refl refl refl
   where
     go : (v h o f g : Bool) → validTransition n t ≡ v → told t b ≡ h → against t b ≡ o → ltb bookRoom (length (withWord t b)) ≡ f → ltb sheetRoom (length (takeSheet n s t)) ≡ g
         → Way n bookRoom sheetRoom k t b s x y
+        (refuse (not v) 6 (refuse h 1 (refuse o 7 (refuse f 8 0))))
         (cond (not v) (refused 6 k) (cond h (going b s x y) (cond o (refused 7 k) (cond f (refused 8 k) (cond g (refused 9 k)
         (going (withWord t b) (takeSheet n s t) (x + struckCount s (takeSheet n s t)) (y + addedCount s (takeSheet n s t))))))))
     go false h o f g ev eh eo ef eg = six ev
@@ -65,11 +69,12 @@ way n bookRoom sheetRoom k t b s x y =
 module _ (n bookRoom sheetRoom : ℕ) (P : List ℕ → Run → Type 0)
     (starts : (r : Run) → Opening n sheetRoom r → P [] r)
     (stands : (ps : List ℕ) (t c p : ℕ) → P ps (refused c p) → P (ps ++ t ∷ []) (refused c p))
-    (keeps : (ps : List ℕ) (t : ℕ) (b s : List ℕ) (x y : ℕ) (r : Run) → P ps (going b s x y) → Way n bookRoom sheetRoom (length ps) t b s x y r → P (ps ++ t ∷ []) r) where
+    (keeps : (ps : List ℕ) (t : ℕ) (b s : List ℕ) (x y : ℕ) (c : ℕ) (r : Run) → P ps (going b s x y) → Way n bookRoom sheetRoom (length ps) t b s x y c r → P (ps ++ t ∷ []) r) where
   word-keeps : (ps : List ℕ) (t : ℕ) (r : Run) → P ps r → P (ps ++ t ∷ []) (learnStep n bookRoom sheetRoom (length ps) t r)
   unfolding learnStep
   word-keeps ps t (refused c p) h = stands ps t c p h
-  word-keeps ps t (going b s x y) h = keeps ps t b s x y (learnStep n bookRoom sheetRoom (length ps) t (going b s x y)) h (way n bookRoom sheetRoom (length ps) t b s x y)
+  word-keeps ps t (going b s x y) h =
+      keeps ps t b s x y (wordCode n t bookRoom b) (learnStep n bookRoom sheetRoom (length ps) t (going b s x y)) h (way n bookRoom sheetRoom (length ps) t b s x y)
 
   words-keep : (k : ℕ) (ps us : List ℕ) (r : Run) → length ps ≡ k → P ps r → P (ps ++ us) (learnWords n bookRoom sheetRoom k us r)
   unfolding learnWords

@@ -7,7 +7,7 @@ use native.Mathlib.Omega.{arith}
 use lib.Dec.{ltb}
 use lib.ListN.{length, take}
 use lib.Seq.{length-take-le}
-use borrow.Author.Tests.{not-false}
+use borrow.Author.Tests.{not-false, lt-ltb, le-ltb}
 use Rattle.table.specs.Surgery.{Holds}
 use Rattle.table.proofs.Counting.{missing-le}
 use Rattle.table.proofs.Tables.{increasing-short}
@@ -31,6 +31,7 @@ use Rattle.inner.specs.Booking.{bookingCode, innerCode}
 use Rattle.inner.specs.Inner.{innerAnswer, Ready, Inner}
 use Rattle.inner.proofs.Booking.{booking-none}
 use Rattle.inner.proofs.Inner.{fits-ten}
+use Rattle.learning.proofs.Ways.{Way, six, passed-over, seven, eight, nine, taken-up, way}
 
 state-word-few : (t : ℕ) → state t < 1024 → t < 1048576
 unfolding state
@@ -69,20 +70,27 @@ step-refuses (suc zero) k r q f1 f0 = absurd (f1 refl)
 step-refuses (suc (suc c)) k r q f1 f0 = refl
 
 module _ (n br sr k t : ℕ) (b s : List ℕ) (x y c : ℕ) (ec : c ≡ wordCode n t br b) where
+  abbrev grown : List ℕ
+  grown = takeSheet n s t
+
   abbrev taking : Run
-  taking = taken sr k t b s x y (takeSheet n s t)
+  taking = taken sr k t b s x y grown
+
+  measured : (q : Bool) → ltb sr (length grown) ≡ q → cond q (refused 9 k) (going (withWord t b) grown (x + struckCount s grown) (y + addedCount s grown)) ≡ taking
+  unfolding taken
+  measured q e = ap (λ (q : Bool). cond q (refused 9 k) (going (withWord t b) grown (x + struckCount s grown) (y + addedCount s grown))) (sym e)
+
+  by-code : (c : ℕ) (r : Run) → Way n br sr k t b s x y c r → r ≡ stepIf c k (going b s x y) taking
+  unfolding stepIf
+  by-code _ _ (six v) = refl
+  by-code _ _ (passed-over v h) = refl
+  by-code _ _ (seven v h o) = refl
+  by-code _ _ (eight v o f) = refl
+  by-code _ _ (nine v o f g) = measured true (lt-ltb sr (length grown) g)
+  by-code _ _ (taken-up v o f g) = measured false (le-ltb sr (length grown) g)
 
   step-is : learnStep n br sr k t (going b s x y) ≡ stepIf c k (going b s x y) taking
-  unfolding learnStep wordCode bookingCode stepIf
-  step-is = go (not (validTransition n t)) (told t b) (against t b) (ltb br (length (withWord t b))) ∙ ap (λ (m : ℕ). stepIf m k (going b s x y) taking) (sym ec)
-    where
-      go : (v h g f : Bool) → cond v (refused 6 k) (cond h (going b s x y) (cond g (refused 7 k) (cond f (refused 8 k) taking)))
-          ≡ stepIf (refuse v 6 (refuse h 1 (refuse g 7 (refuse f 8 0)))) k (going b s x y) taking
-      go true h g f = refl
-      go false true g f = refl
-      go false false true f = refl
-      go false false false true = refl
-      go false false false false = refl
+  step-is = by-code _ _ (way n br sr k t b s x y) ∙ ap (λ (m : ℕ). stepIf m k (going b s x y) taking) (sym ec)
 
   step-repeat : c ≡ 1 → learnStep n br sr k t (going b s x y) ≡ going b s x y
   unfolding stepIf

@@ -77,14 +77,14 @@ module _ (n bookRoom room : ℕ) where
   more-placed ps t c p h = (h .0, omega (arith, h .1, length-append ps (t ∷ [])))
 
   -- a refusal at the word t has its number
-  word-placed : (ps : List ℕ) (t : ℕ) (b s : List ℕ) (x y : ℕ) (r : Run) → Placed (length ps) bookRoom (going b s x y) → Way n bookRoom room (length ps) t b s x y r
+  word-placed : (ps : List ℕ) (t : ℕ) (b s : List ℕ) (x y c : ℕ) (r : Run) → Placed (length ps) bookRoom (going b s x y) → Way n bookRoom room (length ps) t b s x y c r
       → Placed (length (ps ++ t ∷ [])) bookRoom r
-  word-placed ps t b s x y _ h (six e) = more-placed ps t 6 (length ps) (omega arith, omega arith)
-  word-placed ps t b s x y _ h (passed-over v e) = h
-  word-placed ps t b s x y _ h (seven v e f) = more-placed ps t 7 (length ps) (omega arith, omega arith)
-  word-placed ps t b s x y _ h (eight v e f) = more-placed ps t 8 (length ps) (omega arith, omega arith)
-  word-placed ps t b s x y _ h (nine v e f g) = more-placed ps t 9 (length ps) (omega arith, omega arith)
-  word-placed ps t b s x y _ h (taken-up v e f g) = omega (arith, insert-length t b, f)
+  word-placed ps t b s x y _ _ h (six e) = more-placed ps t 6 (length ps) (omega arith, omega arith)
+  word-placed ps t b s x y _ _ h (passed-over v e) = h
+  word-placed ps t b s x y _ _ h (seven v e f) = more-placed ps t 7 (length ps) (omega arith, omega arith)
+  word-placed ps t b s x y _ _ h (eight v e f) = more-placed ps t 8 (length ps) (omega arith, omega arith)
+  word-placed ps t b s x y _ _ h (nine v e f g) = more-placed ps t 9 (length ps) (omega arith, omega arith)
+  word-placed ps t b s x y _ _ h (taken-up v e f g) = omega (arith, insert-length t b, f)
 
   end-placed : (m k : ℕ) → k ≤ m → bookRoom ≤ m → (r : Run) → Placed k bookRoom r → Placed m bookRoom (learnEnd n r)
   unfolding learnEnd

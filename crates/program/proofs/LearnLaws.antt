@@ -27,13 +27,13 @@ module _ (n room : ℕ) where
   start-writable _ (nine-at-once e f) = omega arith
   start-writable _ (opened e f) = (e, fresh-good n (size-small n e), omega (arith, fresh-length n, f))
 
-  word-writable : (bookRoom k t : ℕ) (b s : List ℕ) (x y : ℕ) (r : Run) → Writable n room (going b s x y) → Way n bookRoom room k t b s x y r → Writable n room r
-  word-writable bookRoom k t b s x y _ h (six e) = omega arith
-  word-writable bookRoom k t b s x y _ h (passed-over v e) = h
-  word-writable bookRoom k t b s x y _ h (seven v e f) = omega arith
-  word-writable bookRoom k t b s x y _ h (eight v e f) = omega arith
-  word-writable bookRoom k t b s x y _ h (nine v e f g) = omega arith
-  word-writable bookRoom k t b s x y _ h (taken-up v e f g) = (h .0, good-i n (takeSheet n s t) (take-good n (size-small n (h .0)) s t), g)
+  word-writable : (bookRoom k t : ℕ) (b s : List ℕ) (x y c : ℕ) (r : Run) → Writable n room (going b s x y) → Way n bookRoom room k t b s x y c r → Writable n room r
+  word-writable bookRoom k t b s x y _ _ h (six e) = omega arith
+  word-writable bookRoom k t b s x y _ _ h (passed-over v e) = h
+  word-writable bookRoom k t b s x y _ _ h (seven v e f) = omega arith
+  word-writable bookRoom k t b s x y _ _ h (eight v e f) = omega arith
+  word-writable bookRoom k t b s x y _ _ h (nine v e f g) = omega arith
+  word-writable bookRoom k t b s x y _ _ h (taken-up v e f g) = (h .0, good-i n (takeSheet n s t) (take-good n (size-small n (h .0)) s t), g)
 
   end-writable : (r : Run) → Writable n room r → Writable n room (learnEnd n r)
   unfolding learnEnd
@@ -48,4 +48,4 @@ module _ (n room : ℕ) where
   unfolding learnRun
   learn-writable bookRoom ts =
       end-writable _ (run-keeps n bookRoom room (λ ps r. Writable n room r) start-writable (λ ps t c p h. h)
-      (λ ps t b s x y r h w. word-writable bookRoom (length ps) t b s x y r h w) ts)
+      (λ ps t b s x y c r h w. word-writable bookRoom (length ps) t b s x y c r h w) ts)
