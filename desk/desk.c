@@ -7,7 +7,12 @@
 #include <string.h>
 #include <unistd.h>
 
-enum { ELEMENTS = 65536, NUMBERS = 7, SLICES = 6, ANSWERS = 11, BUFFER = 65536 };
+enum { MOST_WORDS = 65536, MOST_BYTES = 2097152, NUMBERS = 7, SLICES = 6, ANSWERS = 11, BUFFER = 65536 };
+
+/* The digest of what the desk is made from; tools/program tells it. */
+#ifndef BUILD
+#define BUILD "unknown"
+#endif
 
 /* How the desk ends. */
 enum { GOOD_END = 0, MALFORMED = 1, BROKEN = 2 };
@@ -15,8 +20,8 @@ enum { GOOD_END = 0, MALFORMED = 1, BROKEN = 2 };
 /* A lent slice: its length, and its elements as words or as bytes. */
 typedef struct {
     size_t len;
-    uint32_t words[ELEMENTS];
-    uint8_t bytes[ELEMENTS];
+    uint32_t words[MOST_WORDS];
+    uint8_t bytes[MOST_BYTES];
 } Slice;
 
 static Slice lent[SLICES];
@@ -152,10 +157,11 @@ static uint64_t next(uint64_t most) {
 static uint64_t most_of(char width) { return width == 'c' ? UINT64_MAX : (width | 32) == 'b' ? UINT8_MAX : UINT32_MAX; }
 
 static void next_slice(Slice *s, char kind) {
-    s->len = next(ELEMENTS);
+    int bytes = (kind | 32) == 'b';
+    s->len = next(bytes ? MOST_BYTES : MOST_WORDS);
     for (size_t k = 0; k < s->len; k++) {
         uint64_t element = next(most_of(kind));
-        if ((kind | 32) == 'b') s->bytes[k] = (uint8_t)element;
+        if (bytes) s->bytes[k] = (uint8_t)element;
         else s->words[k] = (uint32_t)element;
     }
 }
@@ -175,8 +181,16 @@ static void answer_call(const Call *call) {
         if (call->slices[k] < 'a') put_slice(&lent[k], call->slices[k]);
 }
 
-int main(void) {
+/* `desk --version`: the version and the digest, on one line. */
+static int tell_version(int argc, char **argv) {
+    static const char line[] = "ntekuzino " NTEKUZINO_VERSION " " BUILD "\n";
+    if (argc > 2 || strcmp(argv[1], "--version") != 0) return BROKEN;
+    return write(STDOUT_FILENO, line, sizeof line - 1) == sizeof line - 1 ? GOOD_END : BROKEN;
+}
+
+int main(int argc, char **argv) {
     signal(SIGPIPE, SIG_IGN);
+    if (argc > 1) return tell_version(argc, argv);
     for (;;) {
         if (in_end - in_at < 8 && !fill()) end(in_end == in_at ? GOOD_END : MALFORMED);
         uint64_t number = word_here();

@@ -20,6 +20,12 @@
 #include <stddef.h>
 #include <stdint.h>
 
+/* Major: a call answers otherwise, or takes other arguments. Minor: calls came. Patch: nothing that a caller can see. */
+#define NTEKUZINO_VERSION "1.0.0"
+#define NTEKUZINO_VERSION_MAJOR 1
+#define NTEKUZINO_VERSION_MINOR 0
+#define NTEKUZINO_VERSION_PATCH 0
+
 #ifdef __cplusplus
 static_assert(sizeof(size_t) == 8, "the library is compiled for 64 bits");
 extern "C" {
@@ -42,7 +48,8 @@ enum {
     NTEKUZINO_SHEET_ROOM = 9,      /* the sheet has more rules than its slice */
     NTEKUZINO_NOT_REPRODUCED = 10, /* learn: the sheet does not reproduce a booked transition */
     NTEKUZINO_LAYOUT = 11,         /* the text breaks the layout */
-    NTEKUZINO_TEXT_ROOM = 12       /* the written text is longer than its slice */
+    NTEKUZINO_TEXT_ROOM = 12,      /* the written text is longer than its slice */
+    NTEKUZINO_INPUT_ROOM = 13      /* the program: the input is above 24,576 bytes; checked first */
 };
 
 /* The common answer. */

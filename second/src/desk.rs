@@ -22,6 +22,14 @@ impl Width {
             Width::Count => u64::MAX,
         }
     }
+
+    /// How many elements a slice may have.
+    pub fn longest(self) -> u64 {
+        match self {
+            Width::Byte => MOST_BYTES,
+            Width::Word | Width::Count => MOST_WORDS,
+        }
+    }
 }
 
 /// A lent slice of a call.
@@ -42,8 +50,9 @@ pub struct Shape {
     pub answers: usize,
 }
 
-/// No lent slice of a request is longer, so that a desk may keep fixed room.
-pub const MOST_ELEMENTS: u64 = 65_536;
+/// No lent slice of words, or of bytes, is longer, so that a desk may keep fixed room.
+pub const MOST_WORDS: u64 = 65_536;
+pub const MOST_BYTES: u64 = 2_097_152;
 
 pub const FRESH: u64 = 1;
 pub const TAKE: u64 = 2;
@@ -182,7 +191,7 @@ fn bounded_word(input: &mut impl Read, most: u64) -> io::Result<Option<u64>> {
 }
 
 fn next_slice(input: &mut impl Read, width: Width) -> io::Result<Option<Vec<u64>>> {
-    let Some(length) = bounded_word(input, MOST_ELEMENTS)? else {
+    let Some(length) = bounded_word(input, width.longest())? else {
         return Ok(None);
     };
     let mut elements = Vec::new();

@@ -1,7 +1,7 @@
 //! Requests and answers as bytes, the seeded cases, and the tally.
 
 use second::cases::{examples, malformed, requests, requests_but};
-use second::desk::{bytes_of, serve, MOST_ELEMENTS, RUN};
+use second::desk::{bytes_of, serve, MOST_WORDS, RUN};
 use second::tally::{printed_outcome, targets, Outcome, Tally};
 
 /// The answers to a stream, and whether it ended between two requests.
@@ -78,10 +78,10 @@ fn a_malformed_request_ends_the_stream() {
 
 #[test]
 fn the_longest_slice() {
-    let mut request = vec![1, 2, MOST_ELEMENTS];
-    request.extend(vec![7; MOST_ELEMENTS as usize]);
+    let mut request = vec![1, 2, MOST_WORDS];
+    request.extend(vec![7; MOST_WORDS as usize]);
     let answer = answered(&request);
-    assert_eq!(answer.len(), 6 + MOST_ELEMENTS as usize);
+    assert_eq!(answer.len(), 6 + MOST_WORDS as usize);
     assert_eq!(answer[..8], [0, 0, 0, 2, 0, 0, 0, 1048576]);
 }
 

@@ -3,7 +3,7 @@
 use super::dice::Dice;
 use super::requests::made;
 use crate::desk::{
-    Request, APPLY, FRESH, JOIN, LEARN, MOST_ELEMENTS, READ, SESSION_TAKE, TAKE, WRITE,
+    Request, APPLY, FRESH, JOIN, LEARN, MOST_BYTES, MOST_WORDS, READ, SESSION_TAKE, TAKE, WRITE,
 };
 use crate::panel::{Transition, MOST_RELAYS};
 use crate::sheets::{sheet_after_take, sheet_of_join, sheet_of_set};
@@ -128,13 +128,13 @@ fn elementary(rule: u64) -> Request {
     made(LEARN, vec![N], vec![words, rubbish(1_024), rubbish(4_096)])
 }
 
-/// Slices of 65,536 elements; and rows that stand for 1,024 states.
+/// Slices as long as they may be; and rows that stand for 1,024 states.
 fn longest() -> Vec<Request> {
-    let most = MOST_ELEMENTS as usize;
+    let most = MOST_WORDS as usize;
     let row = b"---------- 1010101010\n";
     let text = [&b".i 10\n.o 10\n"[..], row, row, b".e\n"].concat();
     let bytes: Vec<u64> = text.iter().map(|byte| u64::from(*byte)).collect();
-    let comment: Vec<u64> = vec![u64::from(b'#'); most];
+    let comment: Vec<u64> = vec![u64::from(b'#'); MOST_BYTES as usize];
     vec![
         made(FRESH, vec![N], vec![rubbish(most)]),
         made(LEARN, vec![N], vec![vec![0; most], rubbish(most), rubbish(most)]),

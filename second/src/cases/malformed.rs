@@ -1,6 +1,6 @@
 //! Malformed requests: at each of them a desk ends the stream.
 
-use crate::desk::MOST_ELEMENTS;
+use crate::desk::{MOST_BYTES, MOST_WORDS};
 
 /// Words that begin no request, or not all of one.
 pub fn malformed() -> Vec<Vec<u64>> {
@@ -30,9 +30,9 @@ pub fn malformed() -> Vec<Vec<u64>> {
         vec![8, 1, too_wide | 46, 0],
         vec![9, 1, 0, 0, 1, 256],
         // slices too long
-        vec![1, 2, MOST_ELEMENTS + 1],
+        vec![1, 2, MOST_WORDS + 1],
         vec![1, 2, 1 << 61],
         vec![1, 2, u64::MAX],
-        vec![8, MOST_ELEMENTS + 1],
+        vec![8, MOST_BYTES + 1],
     ]
 }
