@@ -1,0 +1,227 @@
+"""A refusal in words. It tells why the proved library refused; it never refuses by itself."""
+from __future__ import annotations
+
+from dataclasses import dataclass, field
+
+from . import calls, texts
+from .desk import MOST_BYTES, MOST_WORDS, Desk
+from .sheets import NO_ROOM, Outcome, in_library, in_program, sizes
+from .texts import Line
+
+_HEADERS = (b".i", b".o", b".type", b".p")
+
+
+@dataclass
+class _Before:
+    """What stands before a line: the line of each header, its value, the first row and the end mark."""
+
+    line: dict[bytes, int] = field(default_factory=dict)
+    value: dict[bytes, bytes] = field(default_factory=dict)
+    first_row: int = 0
+    end: int = 0
+
+
+def _before(lines: list[Line]) -> _Before:
+    so_far = _Before()
+    for line in lines:
+        if line.is_row:
+            so_far.first_row = so_far.first_row or line.number
+        elif line.fields and line.fields[0] in (b".e", b".end"):
+            so_far.end = line.number
+        elif line.fields:
+            so_far.line[line.fields[0]] = line.number
+            so_far.value[line.fields[0]] = line.fields[-1]
+    return so_far
+
+
+def _named(raw: bytes) -> str:
+    return f"`{texts.shown(raw)}`"
+
+
+def _count(number: int, one: str, many: str) -> str:
+    return f"{number:,} {one if number == 1 else many}"
+
+
+def _missing(so_far: _Before) -> str:
+    gone = [name for name in (b".i", b".o") if name not in so_far.line]
+    return " and ".join(_named(name) for name in gone)
+
+
+def _size_fault(line: Line, so_far: _Before) -> str:
+    name, value = line.fields[0], line.fields[1]
+    other = b".o" if name == b".i" else b".i"
+    if not value.isdigit():
+        return f"{_named(value)} is no number."
+    if value.startswith(b"0") or len(value) > 2 or int(value) > 10:
+        return f"A panel has 1 to 10 relays, written without leading zeros; {_named(value)} is none of them."
+    if so_far.value.get(other) not in (None, value):
+        return f"{_named(other)} in line {so_far.line[other]} says {texts.shown(so_far.value[other])}; inputs and outputs must be equally many."
+    return ""
+
+
+def _p_fault(line: Line, rows: int) -> str:
+    value = line.fields[1]
+    if not value.isdigit():
+        return f"{_named(value)} is no number."
+    if value.startswith(b"0") and value != b"0":
+        return "A number has no leading zeros."
+    return f"It says {texts.shown(value)}, but the text has {_count(rows, 'row', 'rows')}."
+
+
+def _header_fault(line: Line, so_far: _Before, rows: int) -> str:
+    name = line.fields[0]
+    if name not in _HEADERS:
+        return f"{_named(name)} is no header of a recording: they are `.i`, `.o`, `.type`, `.p`, and `.e` or `.end` at the end."
+    if name in so_far.line:
+        return f"{_named(name)} stands twice: line {so_far.line[name]} has it already."
+    if so_far.first_row:
+        return f"Headers stand before the first row, which is line {so_far.first_row}."
+    if len(line.fields) != 2:
+        return f"{_named(name)} has {_count(len(line.fields) - 1, 'value', 'values')}; it takes one."
+    if name == b".type":
+        kind = line.fields[1]
+        sheet = " A text of `.type f` is a sheet, not a recording." if kind == b"f" else ""
+        return f"The type of a recording is `fr`, not {_named(kind)}.{sheet}" if kind != b"fr" else ""
+    return _p_fault(line, rows) if name == b".p" else _size_fault(line, so_far)
+
+
+def _cells_fault(cells: bytes, allowed: bytes, n: int, what: str) -> str:
+    wrong = next((k for k, cell in enumerate(cells) if cell not in allowed), None)
+    if wrong is not None:
+        marks = ", ".join(f"`{chr(mark)}`" for mark in allowed)
+        return f"Column {wrong} of the {what} is {_named(cells[wrong : wrong + 1])}; only {marks} can stand there."
+    if len(cells) != n:
+        return f"The row has {_count(len(cells), f'{what} column', f'{what} columns')}; the panel has {n} relays."
+    return ""
+
+
+def _row_fault(line: Line, so_far: _Before) -> str:
+    if _missing(so_far):
+        return f"Before the first row there must be {_missing(so_far)}."
+    n = int(so_far.value[b".i"])
+    fault = _cells_fault(line.fields[0], b"01-", n, "input")
+    if fault:
+        return fault
+    if len(line.fields) != 2:
+        return f"A row has two fields, input and output; this one has {len(line.fields)}."
+    return _cells_fault(line.fields[1], b"01", n, "output")
+
+
+def _odd_byte(line: Line) -> str:
+    """A byte that no line of a recording has outside a comment."""
+    plain = line.raw.split(b"#", 1)[0]
+    odd = next((k for k, byte in enumerate(plain) if not (byte == 9 or 32 <= byte < 127)), None)
+    if odd is None:
+        return ""
+    return f"Byte {odd + 1} of the line is {plain[odd]} (hexadecimal {plain[odd]:02x}), which only a comment can have."
+
+
+def _marks_fault(line: Line, crs: int) -> str:
+    """What people with Windows meet first."""
+    if line.number == 1 and line.raw.startswith(b"\xef\xbb\xbf"):
+        return "The text begins with a byte order mark (the bytes ef bb bf). Save it as plain ASCII, or as UTF-8 without the mark."
+    if line.number == 1 and line.raw[:2] in (b"\xff\xfe", b"\xfe\xff"):
+        return "The text is UTF-16, as some Windows programs save it. Save it as plain ASCII."
+    if line.raw.split(b"#", 1)[0].endswith(b"\r"):
+        return f"The line ends with CR, as Windows writes line ends ({_count(crs, 'line does', 'lines do')}). Save the text with Unix line ends, LF alone."
+    return _odd_byte(line)
+
+
+def _line_fault(text: bytes, place: int) -> tuple[str, str]:
+    """The faulty line as it stands, and what is wrong with it."""
+    all_lines = texts.lines(text)
+    so_far = _before(all_lines[: place - 1])
+    if place > len(all_lines):
+        end = "The text is empty." if not all_lines else f"The text ends after line {len(all_lines)}, with no end mark."
+        return "", end + " A recording ends with a line `.e` or `.end`."
+    line = all_lines[place - 1]
+    crs = sum(each.raw.endswith(b"\r") for each in all_lines)
+    marks = _marks_fault(line, crs)
+    if marks:
+        return texts.shown(line.raw), marks
+    if so_far.end:
+        why = f"After the end mark, line {so_far.end}, only blank lines and comments can follow."
+    elif line.fields and line.fields[0] in (b".e", b".end"):
+        why = f"{_named(line.fields[0])} stands alone on its line."
+        if _missing(so_far):
+            why = f"Before the end mark there must be {_missing(so_far)}."
+    elif line.fields and line.fields[0].startswith(b"."):
+        why = _header_fault(line, so_far, sum(each.is_row for each in all_lines))
+    else:
+        why = _row_fault(line, so_far) if line.fields else ""
+    return texts.shown(line.raw), why or "The line does not belong there."
+
+
+def _other_successor(text: bytes, place: int, n: int, words: list[int]) -> str:
+    state, successor = calls.transition_of(words[place])
+    first = next(k for k, word in enumerate(words) if calls.transition_of(word)[0] == state)
+    a, b = texts.row_of_word(text, first), texts.row_of_word(text, place)
+    told = calls.columns(n, calls.transition_of(words[first])[1])
+    return (
+        f"Rows {a.number} and {b.number} (lines {a.line} and {b.line}) disagree on state {calls.columns(n, state)}: "
+        f"one says that {told} follows, the other {calls.columns(n, successor)}."
+    )
+
+
+def _sheet_room(text: bytes, place: int, n: int, words: list[int], room: int, desk: Desk) -> str:
+    row = texts.row_of_word(text, place)
+    so_far = calls.learn(n, words[: place + 1], desk=desk)
+    rules = f"{so_far.sheet_count:,}" if so_far.done else f"more than {MOST_WORDS:,}"
+    return (
+        f"After row {row.number} (line {row.line}) the sheet has {rules} rules; there is room for {room:,}. "
+        "Rows in increasing order of state may need less on the way; the sheet is the same."
+    )
+
+
+def _why(text: bytes, outcome: Outcome, desk: Desk) -> tuple[str, str]:
+    """The faulty line, where there is one, and the reason in words."""
+    if outcome.code == 11:
+        return _line_fault(text, outcome.place)
+    if outcome.code == 13:
+        most = MOST_BYTES if outcome.in_library else calls.PROGRAM_BYTES
+        return "", f"The text has {len(text):,} bytes; there is room for {most:,}."
+    room = MOST_WORDS if outcome.in_library else calls.PROGRAM_WORDS
+    if outcome.code == 8:
+        states = sum(row.states for row in texts.rows(text))
+        return "", f"The rows stand for {states:,} states, repeats counted; there is room for {room:,}."
+    reading = calls.read(text, MOST_WORDS, desk=desk)
+    if outcome.code == 7:
+        return "", _other_successor(text, outcome.place, reading.n, reading.words)
+    if outcome.code == 9:
+        return "", _sheet_room(text, outcome.place, reading.n, reading.words, room, desk)
+    return "", ""
+
+
+@dataclass(frozen=True)
+class Explanation:
+    """Why a recording is refused: the outcome, the faulty line as it stands or nothing, and sentences."""
+
+    outcome: Outcome
+    line: str
+    why: str
+
+    def __str__(self) -> str:
+        first = self.outcome.printed.decode("ascii").rstrip("\n")
+        shown = f"line {self.outcome.place}: {self.line}\n" if self.line else ""
+        return f"{first}\n{shown}{self.why}"
+
+
+def why_refused(text: bytes, outcome: Outcome, desk: Desk) -> Explanation:
+    """A refusal in words."""
+    return Explanation(outcome, *_why(text, outcome, desk))
+
+
+def explain(text: bytes, desk: Desk) -> tuple[bool, str]:
+    """Whether the program gives a sheet for a recording, and what there is to say of it."""
+    outcome = in_program(text, desk)
+    if outcome.done:
+        n, rules = sizes(outcome.printed)
+        count = sum(1 for _ in texts.rows(text))
+        return True, f"Nothing is refused: {_count(count, 'row', 'rows')} of {_count(n, 'relay', 'relays')} give a sheet of {_count(rules, 'rule', 'rules')}."
+    told = str(why_refused(text, outcome, desk))
+    if outcome.code in NO_ROOM:
+        larger = in_library(text, desk)
+        if larger.done:
+            return False, f"{told}\nIn the library's room there is a sheet, of {sizes(larger.printed)[1]:,} rules: `ntekuzino sheet` prints it."
+        told += f"\nIn the library's room: {why_refused(text, larger, desk)}"
+    return False, told

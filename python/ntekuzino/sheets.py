@@ -1,0 +1,73 @@
+"""From a recording's text to what is printed: in the program's rooms first, then, where these are too small, in the library's."""
+from __future__ import annotations
+
+import re
+from dataclasses import dataclass
+
+from . import calls
+from .desk import MOST_BYTES, MOST_WORDS, Desk, DeskError
+
+_REFUSAL = re.compile(rb"refused (\d+) at (\d+)\n")
+
+#: Codes that say that a room was too small: for the list or book, for the sheet, for the text.
+NO_ROOM = (8, 9, 13)
+
+
+@dataclass(frozen=True)
+class Outcome:
+    """What is printed for a recording: its sheet, or the line of a refusal with its code and place."""
+
+    printed: bytes
+    code: int
+    place: int
+    in_library: bool
+
+    @property
+    def done(self) -> bool:
+        return self.code == 0
+
+
+def _refusal(code: int, place: int, in_library: bool) -> Outcome:
+    return Outcome(b"refused %d at %d\n" % (code, place), code, place, in_library)
+
+
+def in_program(text: bytes, desk: Desk) -> Outcome:
+    """What `rulesheet` prints."""
+    # Above 24,576 bytes the length alone decides, so the first of them are enough.
+    printed = calls.run(text[:MOST_BYTES], desk=desk).text
+    refusal = _REFUSAL.fullmatch(printed)
+    if refusal:
+        return Outcome(printed, int(refusal[1]), int(refusal[2]), False)
+    if printed.startswith(b".i ") and printed.endswith(b"\n.e\n"):
+        return Outcome(printed, 0, 0, False)
+    raise DeskError("what the desk answered is neither a sheet nor a refusal")
+
+
+def in_library(text: bytes, desk: Desk) -> Outcome:
+    """The same with 65,536 words for the list and for the sheet, and a text of up to 2,097,152 bytes."""
+    if len(text) > MOST_BYTES:
+        return _refusal(13, 0, True)
+    reading = calls.read(text, MOST_WORDS, desk=desk)
+    if not reading.done:
+        return _refusal(reading.code, reading.place, True)
+    learned = calls.learn(reading.n, reading.words, desk=desk)
+    if not learned.done:
+        return _refusal(learned.code, learned.place, True)
+    written = calls.write_sheet(reading.n, learned.piece.sheet, desk=desk)
+    if not written.done:
+        return _refusal(written.code, written.place, True)
+    return Outcome(written.text, 0, 0, True)
+
+
+def sheet(text: bytes, desk: Desk, exact: bool = False) -> Outcome:
+    """What `rulesheet` prints; unless `exact`, in the library's rooms where the program's are too small."""
+    outcome = in_program(text, desk)
+    if exact or outcome.code not in NO_ROOM:
+        return outcome
+    return in_library(text, desk)
+
+
+def sizes(printed: bytes) -> tuple[int, int]:
+    """Relays and rules of a printed sheet."""
+    fields = printed.split(maxsplit=8)
+    return int(fields[1]), int(fields[7])

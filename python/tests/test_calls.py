@@ -1,0 +1,193 @@
+"""Every call through the package: document 01's bench examples, every number and slice, and desks that fail."""
+from __future__ import annotations
+
+import doctest
+import os
+import shlex
+import sys
+import threading
+import unittest
+
+from . import helping
+import ntekuzino
+from ntekuzino import Desk, DeskError, Piece, Session, calls, desk as desks
+
+K9 = [2048, 1053696, 2097153]
+PANEL_WORDS = [7171, 3073, 1024, 4, 4100, 6149, 5122, 2053]
+
+
+class BenchExamples(unittest.TestCase):
+    """On the proved desk; `SecondDesk` runs the same on the second program."""
+
+    words: list[str] | None = None
+
+    def setUp(self) -> None:
+        self.desk = Desk(self.words)
+        self.addCleanup(self.desk.close)
+
+    def test_fresh(self) -> None:
+        fresh = ntekuzino.fresh(2, [7, 7, 7], desk=self.desk)
+        self.assertEqual((fresh.code, fresh.sheet_count, fresh.sheet), (0, 2, [0, 1048576, 0]))
+        self.assertTrue(fresh.done)
+        for n in (0, 11):
+            refused = ntekuzino.fresh(n, [7], desk=self.desk)
+            self.assertEqual((refused.code, refused.sheet, refused.done), (2, [7], False))
+
+    def test_take(self) -> None:
+        taken = ntekuzino.take(1, 0, 0, 2, 0, [0, 5], 1, desk=self.desk)
+        self.assertEqual((taken.code, taken.book, taken.sheet, taken.struck, taken.added), (0, [0, 0], [1024, 0], 1, 1))
+        again = ntekuzino.take(1, 0, 0, taken.book, 1, taken.sheet, 1, desk=self.desk)
+        self.assertEqual((again.code, again.book_count, again.sheet_count), (1, 1, 1))
+        self.assertEqual(ntekuzino.take(1, 2, 0, 1, 0, [0], 1, desk=self.desk).code, 6)
+
+    def test_learn(self) -> None:
+        learned = ntekuzino.learn(3, PANEL_WORDS, 8, 7, desk=self.desk)
+        self.assertEqual((learned.code, learned.piece.sheet, learned.book), (0, K9, sorted(PANEL_WORDS)))
+        k8 = ntekuzino.learn(3, [7171, 3073], 2, 5, desk=self.desk)
+        self.assertEqual((k8.code, k8.place, k8.book, k8.sheet), (9, 1, [0, 0], [0] * 5))
+
+    def test_join(self) -> None:
+        joined = ntekuzino.join(1, Piece([0], [1024]), Piece([1024], [1]), 2, [7], desk=self.desk)
+        self.assertEqual((joined.code, joined.book, joined.sheet_count, joined.sheet), (0, [0, 1024], 0, [0]))
+        wrong_count = ntekuzino.join(1, Piece([0], [1024], 2), Piece([1024], [1]), 2, 1, desk=self.desk)
+        self.assertEqual(wrong_count.code, 3)
+
+    def test_apply(self) -> None:
+        self.assertEqual(ntekuzino.apply(3, K9, 5, desk=self.desk).state, 2)
+        self.assertEqual(ntekuzino.apply(1, [0, 1024], 0, desk=self.desk).code, 5)
+
+    def test_session(self) -> None:
+        started = ntekuzino.session_start(1, 1, desk=self.desk)
+        self.assertEqual(started.session, Session(1, 0, 1, 0, 0))
+        taken = ntekuzino.session_take(started.session, 0, 0, 1, started.sheet, desk=self.desk)
+        self.assertEqual((taken.code, taken.session, taken.book, taken.sheet), (0, Session(1, 1, 1, 1, 1), [0], [1024]))
+
+    def test_read_write_run(self) -> None:
+        reading = ntekuzino.read(helping.PANEL.decode(), 9, desk=self.desk)
+        self.assertEqual((reading.code, reading.n, reading.words, reading.list[8]), (0, 3, PANEL_WORDS, 0))
+        self.assertEqual(ntekuzino.read(b"\xff", 1, desk=self.desk).place, 1)
+        self.assertEqual(ntekuzino.write_sheet(3, K9, desk=self.desk).text, helping.PANEL_SHEET)
+        short = ntekuzino.write_sheet(3, K9, out=b"?" * 5, desk=self.desk)
+        self.assertEqual((short.code, short.out, short.text), (12, b"?" * 5, b""))
+        ran = ntekuzino.run(helping.PANEL, desk=self.desk)
+        self.assertEqual((ran.text, ran.sheet[:3]), (helping.PANEL_SHEET, K9))
+
+    def test_largest_slices(self) -> None:
+        text = b"#" * desks.MOST_BYTES
+        self.assertEqual(ntekuzino.read(text, desk=self.desk).place, 2)
+        with self.assertRaises(ValueError):
+            ntekuzino.read(text + b"#", desk=self.desk)
+        with self.assertRaises(ValueError):
+            ntekuzino.fresh(1, desks.MOST_WORDS + 1, desk=self.desk)
+
+    def test_numbers_that_no_request_holds(self) -> None:
+        for make in (
+            lambda: ntekuzino.fresh(2**32, 1, desk=self.desk),
+            lambda: ntekuzino.fresh(1, [2**32], desk=self.desk),
+            lambda: ntekuzino.fresh(-1, 1, desk=self.desk),
+            lambda: ntekuzino.write_sheet(1, [0], out=[256], desk=self.desk),
+        ):
+            with self.assertRaises((ValueError, OverflowError)):
+                make()
+        self.assertEqual(ntekuzino.fresh(1, 1, desk=self.desk).code, 0)
+
+
+class SecondDesk(BenchExamples):
+    words = [str(helping.SECOND)]
+
+
+class Words(unittest.TestCase):
+    def test_words(self) -> None:
+        self.assertEqual(ntekuzino.transition_of(ntekuzino.transition(7, 3)), (7, 3))
+        self.assertEqual(ntekuzino.rule_of(2097153), ntekuzino.Rule(2, (), (0,)))
+        self.assertEqual(ntekuzino.rule_of(1053696), ntekuzino.Rule(1, (0, 2), ()))
+        self.assertEqual([ntekuzino.columns(3, 3), ntekuzino.state_of("110")], ["110", 3])
+
+    def test_docstring(self) -> None:
+        self.assertEqual(doctest.testmod(ntekuzino).failed, 0)
+
+    def test_versions_agree(self) -> None:
+        header = (helping.ROOT / "include" / "ntekuzino.h").read_text()
+        project = (helping.ROOT / "python" / "pyproject.toml").read_text()
+        self.assertIn(f'#define NTEKUZINO_VERSION "{ntekuzino.__version__}"', header)
+        self.assertIn(f'version = "{ntekuzino.__version__}"', project)
+        self.assertRegex(ntekuzino.version(), rf"^ntekuzino {ntekuzino.__version__} [0-9a-f]{{64}}$")
+
+
+def says(answer: bytes, then: str = "") -> list[str]:
+    """A desk that answers so and goes on as told."""
+    return [sys.executable, "-c", f"import sys,time,os\nsys.stdin.buffer.read(8)\nsys.stdout.buffer.write({answer!r})\nsys.stdout.flush()\n{then}"]
+
+
+class Failures(unittest.TestCase):
+    def test_answers_short(self) -> None:
+        with Desk(says(bytes(16))) as desk:
+            for _ in range(2):
+                with self.assertRaises(DeskError):
+                    ntekuzino.fresh(1, 1, desk=desk)
+            self.assertTrue(desk.ended)
+
+    def test_dies(self) -> None:
+        desk = Desk()
+        self.assertEqual(ntekuzino.fresh(1, 1, desk=desk).code, 0)
+        desk._process.kill()
+        with self.assertRaises(DeskError):
+            ntekuzino.fresh(1, 1, desk=desk)
+
+    def test_no_desk(self) -> None:
+        with self.assertRaises(DeskError):
+            Desk(["/nowhere/desk"])
+        with self.assertRaises(DeskError):
+            desks.version([sys.executable, "-c", ""])
+
+    def test_told_by_the_environment(self) -> None:
+        told = says(b"", "raise SystemExit(3)")
+        os.environ["NTEKUZINO_DESK"] = " ".join(shlex.quote(word) for word in told)
+        try:
+            self.assertEqual(desks.command(), told)
+        finally:
+            del os.environ["NTEKUZINO_DESK"]
+
+    def test_another_process(self) -> None:
+        with Desk() as desk:
+            child = os.fork()
+            if child == 0:
+                try:
+                    ntekuzino.fresh(1, 1, desk=desk)
+                except DeskError:
+                    os._exit(7)
+                os._exit(0)
+            self.assertEqual(os.waitstatus_to_exitcode(os.waitpid(child, 0)[1]), 7)
+            self.assertEqual(ntekuzino.fresh(1, 1, desk=desk).code, 0)
+
+    def test_broken_off(self) -> None:
+        with Desk() as desk:
+            stdin = desk._process.stdin
+
+            class Interrupted:
+                def write(self, _: object) -> None:
+                    raise KeyboardInterrupt
+
+                def close(self) -> None:
+                    stdin.close()
+
+            desk._process.stdin = Interrupted()  # type: ignore[assignment]
+            with self.assertRaises(KeyboardInterrupt):
+                ntekuzino.fresh(1, 1, desk=desk)
+            with self.assertRaises(DeskError):
+                ntekuzino.fresh(1, 1, desk=desk)
+
+    def test_threads(self) -> None:
+        wrong: list[int] = []
+
+        def ask(n: int) -> None:
+            for _ in range(50):
+                if calls.fresh(n, 10).sheet_count != n:
+                    wrong.append(n)
+
+        threads = [threading.Thread(target=ask, args=[n]) for n in range(1, 9)]
+        for thread in threads:
+            thread.start()
+        for thread in threads:
+            thread.join()
+        self.assertEqual(wrong, [])

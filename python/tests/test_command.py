@@ -1,0 +1,199 @@
+"""The commands as people meet them: files, standard input, terminals, lost output, wrong arguments."""
+from __future__ import annotations
+
+import os
+import subprocess
+import unittest
+
+from . import helping
+from .helping import PANEL, PANEL_SHEET, RECORDINGS, ROOT, InFolder, at_terminal, ran
+
+RULESHEET, NTEKUZINO = ROOT / "rulesheet", ROOT / "ntekuzino"
+
+
+class Rulesheet(InFolder):
+    def test_file_and_input(self) -> None:
+        for done in (ran(RULESHEET, RECORDINGS / "panel.pla"), ran(RULESHEET, "--", RECORDINGS / "panel.pla"), ran(RULESHEET, input=PANEL)):
+            self.assertEqual((done.returncode, done.stdout, done.stderr), (0, PANEL_SHEET, b""))
+
+    def test_odd_names(self) -> None:
+        for name in ("-v", "a  b", "two\nlines", "--help"):
+            self.put(name, PANEL)
+            self.assertEqual(ran(RULESHEET, "--", name, cwd=self.folder).stdout, PANEL_SHEET, name)
+
+    def test_a_refusal(self) -> None:
+        done = ran(RULESHEET, RECORDINGS / "refused-7.pla")
+        self.assertEqual((done.returncode, done.stdout, done.stderr), (1, b"refused 7 at 1\n", b""))
+
+    def test_more_than_is_read(self) -> None:
+        done = ran(RULESHEET, input=b"#" * 1_000_000)
+        self.assertEqual((done.returncode, done.stdout), (1, b"refused 13 at 0\n"))
+
+    def test_no_terminal(self) -> None:
+        done = ran(RULESHEET)
+        self.assertEqual((done.returncode, done.stdout, done.stderr), (1, b"refused 11 at 1\n", b""))
+
+    def test_terminal(self) -> None:
+        status, shown = at_terminal(RULESHEET, typed=b"\x04")
+        self.assertEqual(status, 1)
+        self.assertIn(b"reading a recording from standard input", shown)
+
+    def test_help(self) -> None:
+        done = ran(RULESHEET, "--help")
+        self.assertEqual(done.returncode, 0)
+        self.assertIn(b"usage: rulesheet [FILE]", done.stdout)
+
+    def test_could_not(self) -> None:
+        self.put("folder/file", b"")
+        cases = [(["nowhere"], b"no file nowhere"), (["folder"], b"folder is a folder"), ([""], b"no file"), (["a", "b"], b"one recording"), (["-x"], b"no such option: -x")]
+        for words, said in cases:
+            done = ran(RULESHEET, *words, cwd=self.folder)
+            self.assertEqual((done.returncode, done.stdout), (2, b""), words)
+            self.assertIn(said, done.stderr)
+            self.assertEqual(done.stderr.count(b"\n"), 1, done.stderr)
+
+    def test_lost_input(self) -> None:
+        shell = f"{RULESHEET} <&-"
+        self.assertEqual(ran("sh", "-c", shell).returncode, 2)
+        with open("/proc/self/mem", "rb") as unreadable:
+            done = ran(RULESHEET, stdin=unreadable)
+        self.assertEqual((done.returncode, done.stdout), (2, b""))
+
+    def test_lost_output(self) -> None:
+        for lost in (">/dev/full", ">&-"):
+            done = ran("sh", "-c", f"{RULESHEET} {RECORDINGS}/panel.pla {lost}")
+            self.assertEqual((done.returncode, done.stdout), (2, b""), lost)
+            self.assertEqual(done.stderr, b"rulesheet: cannot write to standard output\n")
+
+
+class Ntekuzino(InFolder):
+    def test_sheet(self) -> None:
+        done = ran(NTEKUZINO, "sheet", RECORDINGS / "panel.pla")
+        self.assertEqual((done.returncode, done.stdout, done.stderr), (0, PANEL_SHEET, b""))
+        done = ran(NTEKUZINO, "sheet", input=PANEL)
+        self.assertEqual((done.returncode, done.stdout, done.stderr), (0, PANEL_SHEET, b""))
+
+    def test_sheets(self) -> None:
+        self.put("a", PANEL)
+        self.put("b", b".i 1\n")
+        done = ran(NTEKUZINO, "sheet", "a", "b", cwd=self.folder)
+        self.assertEqual((done.returncode, done.stdout), (1, b"# a\n" + PANEL_SHEET + b"# b\nrefused 11 at 2\n"))
+        self.assertEqual(done.stderr, b"ntekuzino: b: The text ends after line 1, with no end mark. A recording ends with a line `.e` or `.end`.\n")
+
+    def test_rooms(self) -> None:
+        shuffled = RECORDINGS / "cell-cycle-shuffled.pla"
+        done = ran(NTEKUZINO, "sheet", shuffled)
+        self.assertEqual((done.returncode, done.stdout), (0, helping.stored("cell-cycle")))
+        self.assertIn(b"the library's room, 22 rules", done.stderr)
+        done = ran(NTEKUZINO, "sheet", "--exact", shuffled)
+        self.assertEqual((done.returncode, done.stdout), (1, b"refused 9 at 8\n"))
+        self.assertIn(b"After row 9 (line 13)", done.stderr)
+
+    def test_explain(self) -> None:
+        done = ran(NTEKUZINO, "explain", RECORDINGS / "refused-7.pla")
+        self.assertEqual(done.returncode, 1)
+        self.assertIn(b"Rows 1 and 2", done.stdout)
+        done = ran(NTEKUZINO, "explain", RECORDINGS / "panel.pla")
+        self.assertEqual((done.returncode, done.stdout), (0, b"Nothing is refused: 8 rows of 3 relays give a sheet of 3 rules.\n"))
+        done = ran(NTEKUZINO, "explain", input=b".i 3\r\n")
+        self.assertIn(b"line 1: .i 3\\r\n", done.stdout)
+
+    def test_join(self) -> None:
+        """A recording in pieces, in any order and with rows twice, gives what the whole gives."""
+        rows = [line for line in PANEL.splitlines(True) if line[:1] in b"01"]
+        head = b".i 3\n.o 3\n.type fr\n"
+        pieces = [self.put(f"{k}.pla", head + b"".join(rows[k : k + 4]) + b".e\n") for k in (0, 2, 4)]
+        for names in (pieces, pieces[::-1], [RECORDINGS / "panel.pla"]):
+            done = ran(NTEKUZINO, "join", *names)
+            self.assertEqual((done.returncode, done.stdout, done.stderr), (0, PANEL_SHEET, b""))
+
+    def test_join_refused(self) -> None:
+        a, b = self.put("a", b".i 2\n.o 2\n10 01\n.e\n"), self.put("b", b".i 2\n.o 2\n1- 11\n.e\n")
+        done = ran(NTEKUZINO, "join", a, b)
+        self.assertEqual((done.returncode, done.stdout), (1, b"refused 7 at 0\n"))
+        self.assertIn(b"disagree on state 10: 01 follows in one, 11 in the other", done.stderr)
+        done = ran(NTEKUZINO, "join", a, RECORDINGS / "panel.pla")
+        self.assertEqual((done.returncode, done.stdout), (2, b""))
+        self.assertIn(b"has 2 relays", done.stderr)
+        done = ran(NTEKUZINO, "join", a, self.put("c", b""))
+        self.assertEqual((done.returncode, done.stdout), (1, b"refused 11 at 1\n"))
+
+    def test_apply(self) -> None:
+        done = ran(NTEKUZINO, "apply", RECORDINGS / "panel.pla", "111", "101")
+        self.assertEqual((done.returncode, done.stdout, done.stderr), (0, b"111 110\n101 010\n", b""))
+        for state in ("11", "1111", "11-", "", "1\n1"):
+            done = ran(NTEKUZINO, "apply", RECORDINGS / "panel.pla", state)
+            self.assertEqual((done.returncode, done.stdout), (2, b""), state)
+        self.assertEqual(ran(NTEKUZINO, "apply", RECORDINGS / "refused-7.pla", "1").returncode, 1)
+
+    def test_help(self) -> None:
+        self.assertEqual(ran(NTEKUZINO, "--help").returncode, 0)
+        for part in ("sheet", "explain", "join", "apply", "archive"):
+            done = ran(NTEKUZINO, part, "--help")
+            self.assertEqual(done.returncode, 0)
+            self.assertIn(b"Example: ntekuzino " + part.encode(), done.stdout)
+        self.assertRegex(ran(NTEKUZINO, "--version").stdout, rb"^package 1\.\d+\.\d+, library ntekuzino 1\.\d+\.\d+ [0-9a-f]{64}\n$")
+
+    def test_could_not(self) -> None:
+        self.put("folder/file", b"")
+        for words in ([], ["frob"], ["sheet", "nowhere"], ["sheet", "folder"], ["sheet", "--frob"], ["explain", "a", "b"], ["join"], ["apply", "x"], ["archive", "a"], ["archive", "nowhere", "out"]):
+            done = ran(NTEKUZINO, *words, cwd=self.folder)
+            self.assertEqual((done.returncode, done.stdout), (2, b""), words)
+            self.assertNotIn(b"Traceback", done.stderr, words)
+            self.assertNotEqual(done.stderr, b"")
+
+    def test_terminal(self) -> None:
+        status, shown = at_terminal(NTEKUZINO, "sheet", typed=b"\x04")
+        self.assertEqual(status, 1)
+        self.assertIn(b"reading a recording from standard input", shown)
+
+    def test_lost_streams(self) -> None:
+        for lost in (">/dev/full", ">&-", "<&-"):
+            done = ran("sh", "-c", f"{NTEKUZINO} sheet {'' if lost == '<&-' else RECORDINGS / 'panel.pla'} {lost}")
+            self.assertEqual((done.returncode, done.stdout), (2, b""), lost)
+            self.assertEqual(done.stderr.count(b"\n"), 1, done.stderr)
+
+    def test_a_desk_that_fails(self) -> None:
+        for desk in ("true", "false", "/nowhere/desk", "head -c 8"):
+            done = ran(NTEKUZINO, "sheet", RECORDINGS / "panel.pla", env={**os.environ, "NTEKUZINO_DESK": desk})
+            self.assertEqual((done.returncode, done.stdout), (2, b""), desk)
+            self.assertIn(b"ntekuzino: the desk", done.stderr)
+
+
+class FirstBuild(InFolder):
+    """The build in a clone that has nothing yet, with a stand-in for rt that proves nothing."""
+
+    def clone(self, rt: str) -> dict[str, str]:
+        for name in ("tools/prove", "tools/program", "tools/clib", "rulesheet", "crates.txt"):
+            path = self.put(f"clone/{name}", (ROOT / name).read_bytes())
+            path.chmod(0o755)
+        self.put("clone/crates/table/src/lib.rt", b"")
+        self.put("bin/rt", f"#!/bin/sh\n{rt}\n".encode()).chmod(0o755)
+        return {**os.environ, "PATH": f"{self.folder / 'bin'}:{os.environ['PATH']}"}
+
+    def test_says_how_far(self) -> None:
+        env = self.clone("echo noise; for k in a b c; do echo \"rt: $k proved (1 s)\"; done; mkdir -p target/bin; echo x > target/bin/rulesheet")
+        done = ran(self.folder / "clone/tools/program", "--built", "rulesheet", env=env)
+        self.assertEqual((done.returncode, done.stdout), (0, b""))
+        # The program, what crates.txt says it needs, and what that needs; the kit's libraries are not ours to prove.
+        self.assertIn(b"proving 17 crates and building rulesheet", done.stderr)
+        self.assertIn(b"proving: 3 of 17 crates, ", done.stderr)
+        self.assertNotIn(b"noise", done.stderr)
+        self.assertIn("noise", (self.folder / "clone/target/prove-rulesheet.log").read_text())
+        self.assertEqual(ran(self.folder / "clone/tools/program", "--built", "rulesheet", env=env).stderr, b"")
+
+    def test_fails_plainly(self) -> None:
+        env = self.clone("echo 'rt: table is not proved'; exit 1")
+        done = ran(self.folder / "clone/rulesheet", env=env)
+        self.assertEqual((done.returncode, done.stdout), (2, b""))
+        self.assertIn(b"the proof or the build failed", done.stderr)
+        self.assertIn(b"target/prove-rulesheet.log", done.stderr)
+
+    @unittest.skipUnless(os.path.exists("/usr/bin/setpriv") and os.getuid() == 0, "a folder that cannot be written needs another user")
+    def test_cannot_write(self) -> None:
+        env = self.clone("exit 1")
+        subprocess.run(["chmod", "-R", "a+rX", self.folder], check=True)
+        done = ran("setpriv", "--reuid=65534", "--regid=65534", "--clear-groups", self.folder / "clone/rulesheet", env=env)
+        self.assertEqual((done.returncode, done.stdout), (2, b""))
+        self.assertIn(b"cannot write to", done.stderr)
+        self.assertEqual(done.stderr.count(b"\n"), 1, done.stderr)
