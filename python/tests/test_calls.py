@@ -103,8 +103,11 @@ class Words(unittest.TestCase):
         self.assertEqual(ntekuzino.rule_of(1053696), ntekuzino.Rule(1, (0, 2), ()))
         self.assertEqual([ntekuzino.columns(3, 3), ntekuzino.state_of("110")], ["110", 3])
 
-    def test_docstring(self) -> None:
-        self.assertEqual(doctest.testmod(ntekuzino).failed, 0)
+    def test_examples_told(self) -> None:
+        """Those of the docstring and of README.md."""
+        for told in (doctest.testmod(ntekuzino), doctest.testfile(str(helping.ROOT / "README.md"), module_relative=False)):
+            self.assertEqual(told.failed, 0)
+            self.assertGreater(told.attempted, 2)
 
     def test_versions_agree(self) -> None:
         header = (helping.ROOT / "include" / "ntekuzino.h").read_text()

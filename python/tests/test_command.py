@@ -182,6 +182,15 @@ class FirstBuild(InFolder):
         self.assertIn("noise", (self.folder / "clone/target/prove-rulesheet.log").read_text())
         self.assertEqual(ran(self.folder / "clone/tools/program", "--built", "rulesheet", env=env).stderr, b"")
 
+    def test_two_at_once(self) -> None:
+        env = self.clone("echo run >> runs; sleep 1; mkdir -p target/bin; echo x > target/bin/rulesheet")
+        words = [self.folder / "clone/tools/program", "--built", "rulesheet"]
+        both = [subprocess.Popen(words, env=env, stderr=subprocess.PIPE) for _ in range(2)]
+        said = b"".join(one.communicate(timeout=60)[1] for one in both)
+        self.assertEqual([one.returncode for one in both], [0, 0])
+        self.assertEqual((self.folder / "clone/runs").read_text(), "run\n")
+        self.assertIn(b"another call is proving; waiting for it", said)
+
     def test_fails_plainly(self) -> None:
         env = self.clone("echo 'rt: table is not proved'; exit 1")
         done = ran(self.folder / "clone/rulesheet", env=env)
