@@ -2,6 +2,7 @@
 from __future__ import annotations
 
 import csv
+import fcntl
 import html.parser
 import os
 import shutil
@@ -176,7 +177,7 @@ class Kept(Archived):
 
 
 class Stopped(Archived):
-    def many(self, count: int = 60) -> None:
+    def many(self, count: int) -> None:
         for k in range(count):
             self.add(f"{k:03}", recording("003-rule-110-ring-09"))
 
@@ -187,7 +188,7 @@ class Stopped(Archived):
         return len(answers)
 
     def test_killed_and_gone_on(self) -> None:
-        self.many()
+        self.many(120)
         for number, least in ((signal.SIGTERM, 3), (signal.SIGINT, 9), (signal.SIGKILL, 15)):
             run = subprocess.Popen([*ARCHIVE, self.texts, self.out], stdout=subprocess.PIPE, stderr=subprocess.PIPE)
             deadline = time.monotonic() + 60
@@ -199,21 +200,22 @@ class Stopped(Archived):
             self.assertTrue(number == signal.SIGKILL or b"broken off; the same command goes on" in said)
             self.no_tables()
             done = self.whole()
-        self.assertLess(done, 60)
+        self.assertLess(done, 120)
         (self.out / ".archive" / "half-1-x").write_bytes(b"half")
         _, said = self.run_(0)
         self.assertGreaterEqual(said.count("(kept)"), done - 2)
-        self.assertEqual(self.whole(), 60)
+        self.assertEqual(self.whole(), 120)
         self.no_halves()
 
     def test_one_run_at_a_time(self) -> None:
-        self.many(40)
-        first = subprocess.Popen([*ARCHIVE, self.texts, self.out], stdout=subprocess.DEVNULL, stderr=subprocess.DEVNULL)
-        while not (self.out / "000.out").exists() and first.poll() is None:
-            time.sleep(0.005)
-        _, said = self.run_(2)
+        self.many(2)
+        self.run_(0)
+        with open(self.out / ".archive" / "lock", "wb") as lock:
+            fcntl.flock(lock, fcntl.LOCK_EX)
+            _, said = self.run_(2)
         self.assertIn("another run writes to", said)
-        self.assertEqual(first.wait(), 0)
+        self.assertTrue((self.out / "table.txt").exists())
+        self.run_(0)
 
     def test_a_desk_that_dies(self) -> None:
         self.many(5)
@@ -227,7 +229,8 @@ class Stopped(Archived):
     def test_full_disk(self) -> None:
         disk = self.folder / "disk"
         disk.mkdir()
-        if ran("mount", "-t", "tmpfs", "-o", "size=64k", "tmpfs", disk).returncode != 0:
+        page = os.sysconf("SC_PAGESIZE")
+        if ran("mount", "-t", "tmpfs", "-o", f"size={16 * page}", "tmpfs", disk).returncode != 0:
             self.skipTest("no small disk can be mounted here")
         self.addCleanup(ran, "umount", disk)
         self.out = disk / "out"
@@ -238,7 +241,7 @@ class Stopped(Archived):
         self.no_tables()
         self.no_halves()
         self.assertGreater(self.whole(), 0)
-        ran("mount", "-o", "remount,size=8m", disk)
+        ran("mount", "-o", f"remount,size={2048 * page}", disk)
         self.assertIn("(kept)", self.run_(1)[1])
         self.assertEqual(self.answer("zzz"), BAD_ANSWER)
 
