@@ -9,7 +9,31 @@
 #include <time.h>
 
 enum { N = 10, BOOK = 1024, SHEET = 65536, TEXT = 1 << 21 };
-enum { OURS, SAME, PRIMES, SIDES };
+
+/* The sides: rivals as compiled for plain x86-64, and for the processor that they run on. */
+enum { OURS, SAME, SAME_NATIVE, PRIMES, PRIMES_NATIVE, SIDES };
+
+/* The rivals' calls, compiled in one way. */
+typedef struct {
+    Learn *learn, *primes;
+    Take *take;
+    Join *join;
+    Apply *apply;
+    Read *read;
+    Write *write_sheet;
+} Rivals;
+static const Rivals plain = {same_learn, primes_learn, same_take, same_join, same_apply, same_read, same_write_sheet};
+#ifdef NATIVE
+static const Rivals native = {same_learn_native, primes_learn_native, same_take_native, same_join_native,
+                              same_apply_native, same_read_native, same_write_sheet_native};
+static const Rivals *const rivals[SIDES] = {NULL, &plain, &native, &plain, &native};
+#else
+static const Rivals *const rivals[SIDES] = {NULL, &plain, NULL, &plain, NULL};
+#endif
+static const char *const columns[SIDES] = {"", "ours/a", "ours/a native", "ours/b", "ours/b native"};
+
+/* Those whose turn it is. */
+static const Rivals *rival;
 
 /* What each side is lent. */
 typedef struct {
@@ -102,88 +126,112 @@ static void write_recording(void) {
 #define ANSWER (ntekuzino_answer *)s->answer
 
 static void learn_ours(Side *s) { ntekuzino_learn(N, words, rows, s->book, BOOK, s->sheet, SHEET, ANSWER); }
-static void learn_same(Side *s) { same_learn(N, words, rows, s->book, BOOK, s->sheet, SHEET, s->answer); }
-static void learn_primes(Side *s) { primes_learn(N, words, rows, s->book, BOOK, s->sheet, SHEET, s->answer); }
+static void learn_same(Side *s) { rival->learn(N, words, rows, s->book, BOOK, s->sheet, SHEET, s->answer); }
+static void learn_primes(Side *s) { rival->primes(N, words, rows, s->book, BOOK, s->sheet, SHEET, s->answer); }
 
 static void take_ours(Side *s) {
     ntekuzino_take(N, extra_state, extra_next, s->book, BOOK, from.answer[2], s->sheet, SHEET, from.answer[3], ANSWER);
 }
 static void take_same(Side *s) {
-    same_take(N, extra_state, extra_next, s->book, BOOK, from.answer[2], s->sheet, SHEET, from.answer[3], s->answer);
+    rival->take(N, extra_state, extra_next, s->book, BOOK, from.answer[2], s->sheet, SHEET, from.answer[3], s->answer);
 }
-static void take_primes(Side *s) { primes_learn(N, words, rows + 1, s->book, BOOK, s->sheet, SHEET, s->answer); }
+static void take_primes(Side *s) { rival->primes(N, words, rows + 1, s->book, BOOK, s->sheet, SHEET, s->answer); }
 
 #define PIECES                                                                                                          \
     N, a.book, BOOK, a.answer[2], a.sheet, SHEET, a.answer[3], b.book, BOOK, b.answer[2], b.sheet, SHEET, b.answer[3],    \
         s->book, BOOK, s->sheet, SHEET
 static void join_ours(Side *s) { ntekuzino_join(PIECES, ANSWER); }
-static void join_same(Side *s) { same_join(PIECES, s->answer); }
+static void join_same(Side *s) { rival->join(PIECES, s->answer); }
 
 static void apply_ours(Side *s) {
     ntekuzino_apply(N, from.sheet, SHEET, from.answer[3], extra_state, (ntekuzino_applied *)s->answer);
 }
-static void apply_same(Side *s) { same_apply(N, from.sheet, SHEET, from.answer[3], extra_state, s->answer); }
+static void apply_same(Side *s) { rival->apply(N, from.sheet, SHEET, from.answer[3], extra_state, s->answer); }
 static void read_ours(Side *s) {
     ntekuzino_read(recording, recording_len, s->list, BOOK, (ntekuzino_reading *)s->answer);
 }
-static void read_same(Side *s) { same_read(recording, recording_len, s->list, BOOK, s->answer); }
+static void read_same(Side *s) { rival->read(recording, recording_len, s->list, BOOK, s->answer); }
 static void write_ours(Side *s) {
     ntekuzino_write_sheet(N, from.sheet, SHEET, from.answer[3], s->text, TEXT, (ntekuzino_written *)s->answer);
 }
-static void write_same(Side *s) { same_write_sheet(N, from.sheet, SHEET, from.answer[3], s->text, TEXT, s->answer); }
+static void write_same(Side *s) { rival->write_sheet(N, from.sheet, SHEET, from.answer[3], s->text, TEXT, s->answer); }
 
 /* ---- measuring */
 
 static double budget = 1.0;
 static int wrong;
 
+/* A call by ours, (a) and (b); NULL where a side has none. */
+typedef void (*Call[3])(Side *);
+
+/* What a side runs; NULL where it has none, or was not compiled. */
+static void (*call_of(Call call, int k))(Side *) {
+    if (k != OURS && !rivals[k]) return NULL;
+    return call[k == OURS ? 0 : k < PRIMES ? 1 : 2];
+}
+
 /* (b) knows neither struck nor added. */
 static int agree(int k) {
     const Side *x = &side[OURS], *y = &side[k];
-    size_t numbers = k == PRIMES ? 4 : 7;
+    size_t numbers = k < PRIMES ? 7 : 4;
     return memcmp(x->answer, y->answer, numbers * sizeof *x->answer) == 0 && memcmp(x->list, y->list, sizeof x->list) == 0 &&
            memcmp(x->book, y->book, sizeof x->book) == 0 && memcmp(x->sheet, y->sheet, sizeof x->sheet) == 0 &&
            memcmp(x->text, y->text, sizeof x->text) == 0;
 }
 
-/* Rounds of all sides until the budget is used, at least three; every run starts from the same slices. */
-static void measure(const char *call, const char *input, size_t rules, void (*run[SIDES])(Side *)) {
-    double best[SIDES] = {1e9, 1e9, 1e9}, used = 0;
+/* One run of a side, which starts from the same slices as all others. */
+static double run(Call call, int k) {
+    memset(&side[k], 0, sizeof side[k]);
+    memcpy(side[k].book, from.book, sizeof from.book);
+    memcpy(side[k].sheet, from.sheet, sizeof from.sheet);
+    rival = rivals[k];
+    void (*now)(Side *) = call_of(call, k);
+    double start = seconds();
+    now(&side[k]);
+    return seconds() - start;
+}
+
+/* Rounds of all sides until the budget is used, at least three. */
+static void measure(const char *name, const char *input, size_t rules, Call call) {
+    double best[SIDES], used = 0;
+    for (int k = 0; k < SIDES; k++) best[k] = 1e9;
     for (int round = 0; round < 3 || (used < budget && round < 2000); round++)
         for (int k = 0; k < SIDES; k++) {
-            if (!run[k]) continue;
-            memset(&side[k], 0, sizeof side[k]);
-            memcpy(side[k].book, from.book, sizeof from.book);
-            memcpy(side[k].sheet, from.sheet, sizeof from.sheet);
-            double start = seconds();
-            run[k](&side[k]);
-            double took = seconds() - start;
+            if (!call_of(call, k)) continue;
+            double took = run(call, k);
             used += took;
             if (took < best[k]) best[k] = took;
         }
     int same = side[OURS].answer[0] == NTEKUZINO_DONE;
-    for (int k = SAME; k < SIDES; k++) same &= !run[k] || agree(k);
+    printf("%-6s %-29s %6zu", name, input, rules);
+    for (int k = SAME; k < SIDES; k++) {
+        if (!rivals[k]) continue;
+        int width = 2 + (int)strlen(columns[k]);
+        if (!call_of(call, k)) printf("%*s", width, "-");
+        else printf("%*.2f", width, best[OURS] / best[k]);
+        same &= !call_of(call, k) || agree(k);
+    }
     wrong |= !same;
-    printf("%-6s %-36s %7zu %8.2f ", call, input, rules, best[OURS] / best[SAME]);
-    if (run[PRIMES]) printf("%8.2f", best[OURS] / best[PRIMES]);
-    else printf("%8s", "-");
     puts(same ? "" : "   ANSWERS DIFFER");
     fflush(stdout);
 }
 
-static void halves(const char *input, void (*run[SIDES])(Side *)) {
+static void halves(const char *input, Call call) {
     learn_piece(&a, words, rows / 2);
     learn_piece(&b, words + rows / 2, rows - rows / 2);
     learn_piece(&from, words, rows);
-    measure("join", input, from.answer[3], run);
+    measure("join", input, from.answer[3], call);
 }
 
 int main(int argc, char **argv) {
     if (argc > 1) budget = atof(argv[1]);
-    void (*learn[])(Side *) = {learn_ours, learn_same, learn_primes}, (*take[])(Side *) = {take_ours, take_same, take_primes};
-    void (*join[])(Side *) = {join_ours, join_same, learn_primes}, (*apply[])(Side *) = {apply_ours, apply_same, NULL};
-    void (*read[])(Side *) = {read_ours, read_same, NULL}, (*write[])(Side *) = {write_ours, write_same, NULL};
-    printf("%-6s %-36s %7s %8s %8s\n", "call", "input", "rules", "ours/a", "ours/b");
+    Call learn = {learn_ours, learn_same, learn_primes}, take = {take_ours, take_same, take_primes};
+    Call join = {join_ours, join_same, learn_primes}, apply = {apply_ours, apply_same, NULL};
+    Call read = {read_ours, read_same, NULL}, write = {write_ours, write_same, NULL};
+    printf("%-6s %-29s %6s", "call", "input", "rules");
+    for (int k = SAME; k < SIDES; k++)
+        if (rivals[k]) printf("  %s", columns[k]);
+    puts("");
 
     rule_110();
     learn_piece(&from, words, rows);
