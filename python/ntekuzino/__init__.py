@@ -6,6 +6,15 @@
 (0, [0, 1048577, 1048578, 1052672, 2097153, 2097154])
 >>> ntekuzino.rule_of(1052672)
 Rule(head=1, on=(2,), off=())
+>>> print(ntekuzino.sheet(".i 1\\n.o 1\\n0 0\\n.e\\n").text, end="")
+.i 1
+.o 1
+.type f
+.p 1
+1 1
+.e
+>>> ntekuzino.explain(".i 1\\n.o 1\\n0 0\\n")
+'refused 11 at 4\\nThe text ends after line 3, with no end mark. A recording ends with a line `.e` or `.end`.'
 """
 from .calls import (
     Answer,
@@ -38,11 +47,13 @@ from .calls import (
     write_sheet,
 )
 from .desk import Desk, DeskError, version
+from .explaining import explain
+from .sheets import Outcome, sheet
 
 __version__ = "1.0.0"
 
 __all__ = [
-    "Answer", "Applied", "Desk", "DeskError", "Fresh", "Piece", "Ran", "Reading", "Rule", "Session", "SessionTaken", "Started", "Taken",
-    "Written", "apply", "columns", "fresh", "join", "learn", "read", "rule_of", "run", "session_start", "session_take", "shared", "state_of",
+    "Answer", "Applied", "Desk", "DeskError", "Fresh", "Outcome", "Piece", "Ran", "Reading", "Rule", "Session", "SessionTaken", "Started", "Taken",
+    "Written", "apply", "columns", "explain", "fresh", "join", "learn", "read", "rule_of", "run", "session_start", "session_take", "shared", "sheet", "state_of",
     "take", "transition", "transition_of", "version", "write_sheet",
 ]

@@ -17,7 +17,7 @@ from typing import Callable, Iterable, TextIO
 from . import desk as desks
 from . import texts
 from .desk import Desk
-from .explain import why_refused
+from .explaining import why_refused
 from .files import CouldNot, could_not, read_recording, write_whole
 from .pages import csv_table, html_page, text_table
 from .sheets import Outcome, sheet, sizes
@@ -228,7 +228,7 @@ class Archive:
             text, digest = read_recording(self.folder / f"{name}.pla")
         except OSError as error:
             return _unreadable(name, error)
-        outcome = sheet(text, desk)
+        outcome = sheet(text, desk=desk)
         entry = _entry(name, text, outcome, desk)
         entry = replace(entry, recording_sha256=digest, answer_sha256=_sha256(outcome.printed), version=self.version)
         self._store(entry, outcome.printed)

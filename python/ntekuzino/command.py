@@ -11,7 +11,7 @@ from typing import NoReturn, Sequence
 from . import __version__, calls, desk as desks
 from .archive import archive
 from .desk import MOST_BYTES, Desk, DeskError
-from .explain import explain, why_refused
+from .explaining import explained, why_refused
 from .files import CouldNot, could_not
 from .sheets import Outcome, in_library, sheet, sizes
 from .texts import shown_name
@@ -74,7 +74,7 @@ def _sheet(args: argparse.Namespace) -> int:
     with Desk() as desk:
         for name in args.files or [None]:
             text = read_input(name)
-            outcome = sheet(text, desk, args.exact)
+            outcome = sheet(text, exact=args.exact, desk=desk)
             if len(args.files) > 1:
                 put(f"# {shown_name(name)}\n".encode("utf-8", "replace"))
             put(outcome.printed)
@@ -89,7 +89,7 @@ def _sheet(args: argparse.Namespace) -> int:
 
 def _explain(args: argparse.Namespace) -> int:
     with Desk() as desk:
-        done, told = explain(read_input(args.file), desk)
+        done, told = explained(read_input(args.file), desk)
     put(f"{told}\n".encode())
     return DONE if done else REFUSED
 

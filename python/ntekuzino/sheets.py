@@ -5,6 +5,7 @@ import re
 from dataclasses import dataclass
 
 from . import calls
+from .calls import Text
 from .desk import MOST_BYTES, MOST_WORDS, Desk, DeskError
 
 _REFUSAL = re.compile(rb"refused (\d+) at (\d+)\n")
@@ -25,6 +26,10 @@ class Outcome:
     @property
     def done(self) -> bool:
         return self.code == 0
+
+    @property
+    def text(self) -> str:
+        return self.printed.decode("ascii")
 
 
 def _refusal(code: int, place: int, in_library: bool) -> Outcome:
@@ -59,12 +64,13 @@ def in_library(text: bytes, desk: Desk) -> Outcome:
     return Outcome(written.text, 0, 0, True)
 
 
-def sheet(text: bytes, desk: Desk, exact: bool = False) -> Outcome:
+def sheet(text: Text, *, exact: bool = False, desk: Desk | None = None) -> Outcome:
     """What `rulesheet` prints; unless `exact`, in the library's rooms where the program's are too small."""
-    outcome = in_program(text, desk)
+    desk, sent = desk or calls.shared(), calls.as_bytes(text)
+    outcome = in_program(sent, desk)
     if exact or outcome.code not in NO_ROOM:
         return outcome
-    return in_library(text, desk)
+    return in_library(sent, desk)
 
 
 def sizes(printed: bytes) -> tuple[int, int]:

@@ -6,7 +6,7 @@ import unittest
 
 from . import helping
 from ntekuzino import Desk
-from ntekuzino.explain import explain, why_refused
+from ntekuzino.explaining import explained, why_refused
 from ntekuzino.sheets import in_library, in_program, sheet
 
 HEAD = b".i 3\n.o 3\n.type fr\n"
@@ -63,7 +63,7 @@ class Explained(unittest.TestCase):
     def test_every_fault(self) -> None:
         for text, line, words in FAULTS:
             with self.subTest(words):
-                done, told = explain(text, self.desk)
+                done, told = explained(text, self.desk)
                 self.assertFalse(done)
                 self.assertEqual(told.splitlines()[0], line)
                 self.assertIn(words, told)
@@ -72,17 +72,17 @@ class Explained(unittest.TestCase):
         for path in sorted(helping.RECORDINGS.glob("*.pla")):
             with self.subTest(path.name):
                 printed = path.with_suffix(".out").read_bytes()
-                done, told = explain(path.read_bytes(), self.desk)
+                done, told = explained(path.read_bytes(), self.desk)
                 self.assertEqual(done, not printed.startswith(b"refused"))
                 if not done:
                     self.assertEqual(told.splitlines()[0] + "\n", printed.decode())
                     self.assertNotIn("does not belong there", told)
 
     def test_nothing_refused(self) -> None:
-        self.assertEqual(explain(helping.PANEL, self.desk), (True, "Nothing is refused: 8 rows of 3 relays give a sheet of 3 rules."))
+        self.assertEqual(explained(helping.PANEL, self.desk), (True, "Nothing is refused: 8 rows of 3 relays give a sheet of 3 rules."))
 
     def test_no_room_on_the_way(self) -> None:
-        _, told = explain(helping.recording("cell-cycle-shuffled"), self.desk)
+        _, told = explained(helping.recording("cell-cycle-shuffled"), self.desk)
         self.assertIn("After row 9 (line 13) the sheet has 1,", told)
         self.assertIn("there is room for 1,024", told)
         self.assertIn("of 22 rules: `ntekuzino sheet` prints it", told)
@@ -109,24 +109,24 @@ class Rooms(unittest.TestCase):
                 text, printed = path.read_bytes(), path.with_suffix(".out").read_bytes()
                 with self.subTest(path.name):
                     self.assertEqual(in_program(text, desk).printed, printed)
-                    self.assertEqual(sheet(text, desk, exact=True).printed, printed)
+                    self.assertEqual(sheet(text, exact=True, desk=desk).printed, printed)
                     if not printed.startswith((b"refused 8", b"refused 9", b"refused 13")):
                         self.assertEqual(in_library(text, desk).printed, printed)
 
     def test_larger_room(self) -> None:
         with Desk() as desk:
-            outcome = sheet(helping.recording("cell-cycle-shuffled"), desk)
+            outcome = sheet(helping.recording("cell-cycle-shuffled"), desk=desk)
             self.assertEqual((outcome.in_library, outcome.printed), (True, helping.stored("cell-cycle")))
             long = helping.PANEL + b"#" * 30000
-            self.assertEqual(sheet(long, desk).printed, helping.PANEL_SHEET)
+            self.assertEqual(sheet(long, desk=desk).printed, helping.PANEL_SHEET)
             many = b".i 3\n.o 3\n" + b"--- 000\n" * 200 + b".e\n"
-            self.assertEqual(sheet(many, desk).printed, b".i 3\n.o 3\n.type f\n.p 0\n.e\n")
+            self.assertEqual(sheet(many, desk=desk).printed, b".i 3\n.o 3\n.type f\n.p 0\n.e\n")
             # Text of 65,536 rules fits: 11 random rows have more rules than the program has room for.
             chance = random.Random(7)
             states = chance.sample(range(1024), 40)
             rows = b"".join(b"%s %s\n" % tuple(f"{x:010b}".encode() for x in (state, chance.randrange(1024))) for state in states)
-            large = sheet(b".i 10\n.o 10\n" + rows + b".e\n", desk)
+            large = sheet(b".i 10\n.o 10\n" + rows + b".e\n", desk=desk)
             self.assertTrue(large.in_library and large.done)
             self.assertGreater(len(large.printed), 65536)
-            beyond = sheet(b"#" * 3_000_000, desk)
+            beyond = sheet(b"#" * 3_000_000, desk=desk)
             self.assertEqual(beyond.printed, b"refused 13 at 0\n")

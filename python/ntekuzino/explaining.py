@@ -4,6 +4,7 @@ from __future__ import annotations
 from dataclasses import dataclass, field
 
 from . import calls, texts
+from .calls import Text
 from .desk import MOST_BYTES, MOST_WORDS, Desk
 from .sheets import NO_ROOM, Outcome, in_library, in_program, sizes
 from .texts import Line
@@ -211,8 +212,13 @@ def why_refused(text: bytes, outcome: Outcome, desk: Desk) -> Explanation:
     return Explanation(outcome, *_why(text, outcome, desk))
 
 
-def explain(text: bytes, desk: Desk) -> tuple[bool, str]:
-    """Whether the program gives a sheet for a recording, and what there is to say of it."""
+def explain(text: Text, *, desk: Desk | None = None) -> str:
+    """What there is to say of a recording: why the program refuses it, or what its sheet has."""
+    return explained(calls.as_bytes(text), desk or calls.shared())[1]
+
+
+def explained(text: bytes, desk: Desk) -> tuple[bool, str]:
+    """The same, after whether the program gives a sheet."""
     outcome = in_program(text, desk)
     if outcome.done:
         n, rules = sizes(outcome.printed)
