@@ -16,7 +16,8 @@ SCRIPTS = "[console_scripts]\nntekuzino = ntekuzino.command:main\n"
 
 
 def _files() -> dict[str, bytes]:
-    files = {f"ntekuzino/{path.name}": path.read_bytes() for path in sorted((HERE / "ntekuzino").glob("*.py*")) if path.is_file()}
+    package = HERE / "ntekuzino"
+    files = {f"ntekuzino/{path.name}": path.read_bytes() for path in [*sorted(package.glob("*.py")), package / "py.typed"]}
     about = {"METADATA": METADATA, "WHEEL": WHEEL, "entry_points.txt": SCRIPTS}
     return {**files, **{f"{ABOUT}/{name}": text.encode() for name, text in about.items()}}
 

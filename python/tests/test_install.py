@@ -104,6 +104,7 @@ class Installed(unittest.TestCase):
         target = self.folder / "packages"
         done = ran(sys.executable, "-m", "pip", "install", "--no-index", "--quiet", "--disable-pip-version-check", "--target", target, ROOT / "python")
         self.assertEqual(done.returncode, 0, done.stderr.decode())
+        self.assertTrue((target / "ntekuzino/py.typed").exists() and (self.prefix / "lib/ntekuzino/ntekuzino/py.typed").exists())
         env = {"PATH": f"{self.prefix / 'bin'}:/usr/bin:/bin", "PYTHONPATH": str(target)}
         code = "import ntekuzino; print(ntekuzino.__file__, ntekuzino.apply(3, [2048, 1053696, 2097153], 5).state)"
         done = ran(sys.executable, "-c", code, env=env, cwd=self.folder)
