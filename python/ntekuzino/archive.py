@@ -180,7 +180,10 @@ class Archive:
             else:
                 kept[name] = entry
         self.say.begin(len(self.names), kept.values())
-        entries = {**kept, **self._answer_all(left, workers)}
+        try:
+            entries = {**kept, **self._answer_all(left, workers)}
+        finally:
+            self.say.end()
         result = Result([entries[name] for name in self.names], [*self.passed, *self._orphans()], self._changes(entries))
         self._write_tables(result)
         return result
@@ -308,7 +311,12 @@ class Progress:
             return
         seconds = (self.clock() - self.began) / self.answered_now * left if self.answered_now else 0
         about = f", about {seconds:.0f} s" if self.answered_now and left else ""
-        self._write(f"\r\x1b[K{done} of {self.total} recordings, {left} left{about}" + ("" if left else "\n"))
+        self._write(f"\r\x1b[K{done} of {self.total} recordings, {left} left{about}")
+
+    def end(self) -> None:
+        """What is said next begins a line."""
+        if self.live:
+            self._write("\n")
 
     def _write(self, what: str) -> None:
         try:
@@ -319,7 +327,7 @@ class Progress:
 
 
 def archive(folder: Path, out: Path, errors: TextIO) -> Result:
-    """Runs over a folder, on all processors."""
+    """Runs over a folder, on all processors that it may use."""
     if not folder.is_dir():
         raise CouldNot(f"no folder {texts.shown_name(os.fspath(folder))}")
     return Archive(folder, out, Progress(errors)).run(len(os.sched_getaffinity(0)))

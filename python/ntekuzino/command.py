@@ -175,6 +175,8 @@ def _archive(args: argparse.Namespace) -> int:
 
     for number in (signal.SIGTERM, signal.SIGHUP, signal.SIGINT):
         signal.signal(number, broken_off)
+    if not args.folder or not args.out:
+        raise CouldNot("FOLDER and OUT must be named")
     result = archive(Path(args.folder), Path(args.out), sys.stderr if sys.stderr is not None else open(os.devnull, "w"))
     put((Path(args.out) / "table.txt").read_bytes())
     return result.status

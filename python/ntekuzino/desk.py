@@ -112,8 +112,8 @@ class Desk:
         return self._why != ""
 
     def close(self) -> None:
-        """Ends the process. Without effect on a desk that has ended."""
-        if self._why == "":
+        """Ends the process. Without effect on a desk that has ended, or belongs to another process."""
+        if self._why == "" and self._owner == os.getpid():
             self._end("the desk is closed")
 
     def _end(self, why: str) -> None:

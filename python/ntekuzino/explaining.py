@@ -180,7 +180,9 @@ def _why(text: bytes, outcome: Outcome, desk: Desk) -> tuple[str, str]:
         return _line_fault(text, outcome.place)
     if outcome.code == 13:
         most = MOST_BYTES if outcome.in_library else calls.PROGRAM_BYTES
-        return "", f"The text has {len(text):,} bytes; there is room for {most:,}."
+        # Of a longer file no more was read.
+        size = f"more than {MOST_BYTES:,}" if len(text) > MOST_BYTES else f"{len(text):,}"
+        return "", f"The text has {size} bytes; there is room for {most:,}."
     room = MOST_WORDS if outcome.in_library else calls.PROGRAM_WORDS
     if outcome.code == 8:
         states = sum(row.states for row in texts.rows(text))

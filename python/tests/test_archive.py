@@ -277,6 +277,9 @@ class Folders(Archived):
         self.assertEqual([path.name for path in self.texts.iterdir()], ["a.pla"])
         self.run_(0, self.texts / "answers")
         self.run_(0, self.texts / "answers")
+        for folders in (["", self.out], [self.texts, ""]):
+            done = ran(*ARCHIVE, *folders, cwd=self.texts)
+            self.assertEqual((done.returncode, done.stderr), (2, b"ntekuzino: FOLDER and OUT must be named\n"))
         self.put("file", b"")
         self.assertIn("cannot write to", self.run_(2, self.folder / "file" / "out")[1])
 
@@ -311,6 +314,15 @@ class Told(Archived):
         self.assertEqual(status, 0)
         self.assertIn(b"3 of 3 recordings, 0 left", shown)
         self.assertNotIn(b"a.pla: sheet", shown)
+
+    def test_a_terminal_and_a_failure(self) -> None:
+        """The sentence stands on a line of its own."""
+        self.add("a", PANEL)
+        desk = self.put("desk", b'#!/bin/sh\n[ "$1" != --version ] || echo ntekuzino 1.0.0 dies\n')
+        desk.chmod(0o755)
+        status, shown = at_terminal("env", f"NTEKUZINO_DESK={desk}", *ARCHIVE, self.texts, self.out, typed=b"")
+        self.assertEqual(status, 2)
+        self.assertRegex(shown, rb"(?m)^ntekuzino: the desk ended")
 
 
 class Links(html.parser.HTMLParser):

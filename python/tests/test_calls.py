@@ -161,6 +161,11 @@ class Failures(unittest.TestCase):
                     os._exit(7)
                 os._exit(0)
             self.assertEqual(os.waitstatus_to_exitcode(os.waitpid(child, 0)[1]), 7)
+            child = os.fork()
+            if child == 0:
+                desk.close()
+                os._exit(0)
+            os.waitpid(child, 0)
             self.assertEqual(ntekuzino.fresh(1, 1, desk=desk).code, 0)
 
     def test_broken_off(self) -> None:

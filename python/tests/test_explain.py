@@ -130,3 +130,4 @@ class Rooms(unittest.TestCase):
             self.assertGreater(len(large.printed), 65536)
             beyond = sheet(b"#" * 3_000_000, desk=desk)
             self.assertEqual(beyond.printed, b"refused 13 at 0\n")
+            self.assertIn("more than 2,097,152 bytes", why_refused(b"#" * 3_000_000, beyond, desk).why)
