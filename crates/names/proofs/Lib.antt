@@ -1,0 +1,5 @@
+pub mod NameLaws
+pub mod SpanLaws
+pub mod Equal
+pub mod Meaning
+pub mod Examples
