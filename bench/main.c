@@ -151,8 +151,10 @@ static void read_ours(Side *s) {
     ntekuzino_read(recording, recording_len, s->list, BOOK, (ntekuzino_reading *)s->answer);
 }
 static void read_same(Side *s) { rival->read(recording, recording_len, s->list, BOOK, s->answer); }
+/* Without names, which the rival does not know: both texts are empty. */
 static void write_ours(Side *s) {
-    ntekuzino_write_sheet(N, from.sheet, SHEET, from.answer[3], s->text, TEXT, (ntekuzino_written *)s->answer);
+    ntekuzino_write_sheet(N, from.sheet, SHEET, from.answer[3], recording, 0, recording, 0, s->text, TEXT,
+                          (ntekuzino_written *)s->answer);
 }
 static void write_same(Side *s) { rival->write_sheet(N, from.sheet, SHEET, from.answer[3], s->text, TEXT, s->answer); }
 

@@ -69,12 +69,16 @@ static void read_text(const uint64_t *x, size_t *answer) {
 }
 
 static void write_sheet(const uint64_t *x, size_t *answer) {
-    ntekuzino_write_sheet((uint32_t)x[0], WORDS(0), x[1], BYTES(1), (ntekuzino_written *)answer);
+    ntekuzino_write_sheet((uint32_t)x[0], WORDS(0), x[1], BYTES(1), BYTES(2), BYTES(3), (ntekuzino_written *)answer);
 }
 
 static void run(const uint64_t *x, size_t *answer) {
     (void)x;
     answer[0] = ntekuzino_run(BYTES(0), WORDS(1), WORDS(2), WORDS(3), BYTES(4));
+}
+
+static void lookup(const uint64_t *x, size_t *answer) {
+    ntekuzino_lookup(BYTES(0), BYTES(1), x[0], (ntekuzino_name *)answer);
 }
 
 /* A call, number k in row k - 1. Numbers: `w` of 32 bits, `c` of 64. Slices: `w` words, `b` bytes; capital where the
@@ -94,8 +98,9 @@ static const Call calls[] = {
     {"w", "W", 11, session_start},
     {"wccccww", "WW", 11, session_take},
     {"", "bW", 4, read_text},
-    {"wc", "wB", 7, write_sheet},
+    {"wc", "wbbB", 7, write_sheet},
     {"", "bWWWB", 1, run},
+    {"c", "bb", 3, lookup},
 };
 
 /* ---- words in and out */

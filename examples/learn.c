@@ -1,5 +1,6 @@
-/* Learns the panel of document 000 whole and in two pieces, joins the pieces, and prints the sheet; every call is made once
- * and its answer checked. Prints what it found wrong, and exits with 1 then. examples/run builds and runs it. */
+/* Learns the panel of document 000 whole and in two pieces, joins the pieces, and prints the sheet with the maker's names;
+ * every call is made once and its answer checked. Prints what it found wrong, and exits with 1 then. examples/run builds
+ * and runs it. */
 #include "ntekuzino.h"
 
 #include <stdio.h>
@@ -69,12 +70,32 @@ static void small_rooms(void) {
            "K8 in room 6 is done");
 }
 
+static const char text[] = ".i 3\n.o 3\n.type fr\n111 110\n110 100\n100 000\n000 001\n001 001\n011 101\n101 010\n"
+                           "010 101\n.e\n";
+/* The panel's own text has no names. The maker's has; its rows do not matter here, so it has none. */
+static const char maker[] = ".i 3\n.o 3\n.ilb PUMP VALVE FLOAT\n.ob PUMP VALVE FLOAT\n.e\n";
+#define TEXT(t) (const uint8_t *)t, sizeof t - 1
+
+static size_t looked_up(size_t column, ntekuzino_name *name) {
+    return ntekuzino_lookup(TEXT(text), TEXT(maker), column, name);
+}
+
+/* The name of each column, which stands in the maker's text, and a column that no panel has. */
+static void names(void) {
+    ntekuzino_name name = {0};
+    for (size_t k = 0; k < N; k++) {
+        expect(looked_up(k, &name) == name.length && name.text == 1, "the maker's text has the names");
+        printf("relay %zu is %.*s\n", k, (int)name.length, maker + name.start);
+    }
+    expect(looked_up(N, &name) == 0 && name.text == 0 && name.start == 0, "relay 3 of 3 has no name");
+    expect(ntekuzino_lookup(TEXT(text), TEXT(text), 0, &name) == 0, "texts without names give none");
+    expect(ntekuzino_lookup(TEXT(maker), TEXT(text), 2, &name) == 5 && name.text == 0, "the panel's own names come first");
+}
+
 int main(void) {
-    static const char text[] = ".i 3\n.o 3\n.type fr\n111 110\n110 100\n100 000\n000 001\n001 001\n011 101\n101 010\n"
-                               "010 101\n.e\n";
     uint32_t words[ROOM] = {0};
     ntekuzino_reading read = {0};
-    ntekuzino_read((const uint8_t *)text, sizeof text - 1, words, ROOM, &read);
+    ntekuzino_read(TEXT(text), words, ROOM, &read);
     size_t count = read.count;
     printf("read: code %zu, n %zu, rows %zu\n", read.code, read.n, count);
     expect(read.n == N && count == 8, "the recording has 3 relays and 8 rows");
@@ -103,13 +124,15 @@ int main(void) {
     small_rooms();
 
     uint8_t out[256] = {0}, again[256] = {0};
-    ntekuzino_write_sheet(N, joined.sheet, ROOM, sheets, out, sizeof out, &written);
+    names();
+    ntekuzino_write_sheet(N, joined.sheet, ROOM, sheets, TEXT(text), TEXT(maker), out, sizeof out, &written);
+    fwrite(out, 1, written.length, stdout);
+    ntekuzino_write_sheet(N, joined.sheet, ROOM, sheets, TEXT(text), TEXT(""), out, sizeof out, &written);
     size_t length = written.length;
-    expect(ntekuzino_write_sheet(N, joined.sheet, ROOM, sheets, again, length - 1, &written) == NTEKUZINO_TEXT_ROOM,
-           "one byte too little is 12");
-    fwrite(out, 1, length, stdout);
-    expect(ntekuzino_run((const uint8_t *)text, sizeof text - 1, words, ROOM, a.book, ROOM, a.sheet, ROOM, again,
-                         sizeof again) == length && memcmp(out, again, length) == 0, "run writes the same sheet");
+    expect(ntekuzino_write_sheet(N, joined.sheet, ROOM, sheets, TEXT(text), TEXT(""), again, length - 1, &written) ==
+               NTEKUZINO_TEXT_ROOM, "one byte too little is 12");
+    expect(ntekuzino_run(TEXT(text), words, ROOM, a.book, ROOM, a.sheet, ROOM, again, sizeof again) == length &&
+               memcmp(out, again, length) == 0, "run writes the same sheet, without the maker's names");
     puts(wrong ? "something is wrong" : "all as expected");
     return wrong;
 }

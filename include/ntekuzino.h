@@ -7,8 +7,9 @@
  *           never NULL, not even with length 0, and is aligned for its type. What is lent holds values, whatever they
  *           are: contracts speak of the words before the call too.
  * Counts.   How many words of a slice are in use: `book_count`. A count above its slice is refused with 3, not read.
- * Answers.  Every call writes its numbers into the struct lent last, always all of them, and returns the code again.
- *           Numbers that a call has no use for are 0. A struct is its fields in their order, one size_t each.
+ * Answers.  Every call writes its numbers into the struct lent last, always all of them, and returns the code again;
+ *           lookup, which has no code, returns the length. Numbers that a call has no use for are 0. A struct is its
+ *           fields in their order, one size_t each.
  * Safety.   With slices as described here every call ends, on every input, and touches no other memory. Nothing is
  *           kept between calls, nothing is allocated; calls on different memory may run at the same time.
  *
@@ -21,8 +22,8 @@
 #include <stdint.h>
 
 /* Major: a call answers otherwise, or takes other arguments. Minor: calls came. Patch: nothing that a caller can see. */
-#define NTEKUZINO_VERSION "1.0.0"
-#define NTEKUZINO_VERSION_MAJOR 1
+#define NTEKUZINO_VERSION "2.0.0"
+#define NTEKUZINO_VERSION_MAJOR 2
 #define NTEKUZINO_VERSION_MINOR 0
 #define NTEKUZINO_VERSION_PATCH 0
 
@@ -71,6 +72,12 @@ typedef struct {
 typedef struct {
     size_t code, place, n, count;
 } ntekuzino_reading;
+
+/* lookup's: which text the name stands in (0 the panel's, 1 the maker's), how many bytes are before it, and how many it
+ * has. Where there is no name all three are 0: the empty part at the start of the panel's text. */
+typedef struct {
+    size_t text, start, length;
+} ntekuzino_name;
 
 /* A bench session. Struck and added are its totals; an answer's are those of its take alone. */
 typedef struct {
@@ -135,14 +142,24 @@ uint32_t ntekuzino_session_take(ntekuzino_session *session, uint32_t *book, size
 uint32_t ntekuzino_read(const uint8_t *text, size_t text_len, uint32_t *list, size_t list_len,
                         ntekuzino_reading *answer);
 
-/* Writes a sheet as text at the start of out, and gives its length. Codes 2, 3, 5, 12. Bytes behind the text
- * stay; refused, no byte changes and the length is 0. */
-uint32_t ntekuzino_write_sheet(uint32_t n, const uint32_t *sheet, size_t sheet_len, size_t sheet_count, uint8_t *out,
-                               size_t out_len, ntekuzino_written *answer);
+/* Writes a sheet as text at the start of out, and gives its length. panel and maker are recording texts, or empty: if
+ * lookup finds a name in them for every column 0 to n - 1, the text has the lines `.ilb` and `.ob`, else neither. Codes
+ * 2, 3, 5, 12; a bad text is no reason to refuse. Bytes behind the text stay; refused, no byte changes and the length
+ * is 0. */
+uint32_t ntekuzino_write_sheet(uint32_t n, const uint32_t *sheet, size_t sheet_len, size_t sheet_count,
+                               const uint8_t *panel, size_t panel_len, const uint8_t *maker, size_t maker_len,
+                               uint8_t *out, size_t out_len, ntekuzino_written *answer);
 
-/* The whole program `rulesheet`: a recording's text in; the sheet's text, or `refused C at P` with LF, at the start of
- * output. Returns its length; 0 where output has no room for either. An input above 24,576 bytes is refused with 13,
- * and changes nothing but output. list, book and sheet are the program's rooms (rulesheet lends 1,024 words each). */
+/* Looks a column's name up: in the `.ilb` line of the panel's text or, if that text is good and has no names, of the
+ * maker's. There is no name if neither text has any, if the text with names has no such column, or if a text consulted
+ * is one that read refuses with 11, as it does an empty one. Returns the length again. */
+size_t ntekuzino_lookup(const uint8_t *panel, size_t panel_len, const uint8_t *maker, size_t maker_len, size_t column,
+                        ntekuzino_name *name);
+
+/* The whole program `rulesheet`: a recording's text in; the sheet's text, with the recording's names if it has any, or
+ * `refused C at P` with LF, at the start of output. Returns its length; 0 where output has no room for either. An input
+ * above 24,576 bytes is refused with 13, and changes nothing but output. list, book and sheet are the program's rooms
+ * (rulesheet lends 1,024 words each). */
 size_t ntekuzino_run(const uint8_t *input, size_t input_len, uint32_t *list, size_t list_len, uint32_t *book,
                      size_t book_len, uint32_t *sheet, size_t sheet_len, uint8_t *output, size_t output_len);
 

@@ -13,6 +13,8 @@ Rule(head=1, on=(2,), off=())
 .p 1
 1 1
 .e
+>>> ntekuzino.lookup(".i 1\\n.o 1\\n.ilb PUMP\\n.ob PUMP\\n.e\\n", "", 0)
+LookedUp(text=0, start=15, length=4, name=b'PUMP')
 >>> ntekuzino.explain(".i 1\\n.o 1\\n0 0\\n")
 'refused 11 at 4\\nThe text ends after line 3, with no end mark. A recording ends with a line `.e` or `.end`.'
 """
@@ -20,6 +22,7 @@ from .calls import (
     Answer,
     Applied,
     Fresh,
+    LookedUp,
     Piece,
     Ran,
     Reading,
@@ -34,6 +37,7 @@ from .calls import (
     fresh,
     join,
     learn,
+    lookup,
     read,
     rule_of,
     run,
@@ -50,10 +54,10 @@ from .desk import Desk, DeskError, version
 from .explaining import explain
 from .sheets import Outcome, sheet
 
-__version__ = "1.0.0"
+__version__ = "2.0.0"
 
 __all__ = [
-    "Answer", "Applied", "Desk", "DeskError", "Fresh", "Outcome", "Piece", "Ran", "Reading", "Rule", "Session", "SessionTaken", "Started", "Taken",
-    "Written", "apply", "columns", "explain", "fresh", "join", "learn", "read", "rule_of", "run", "session_start", "session_take", "shared", "sheet", "state_of",
-    "take", "transition", "transition_of", "version", "write_sheet",
+    "Answer", "Applied", "Desk", "DeskError", "Fresh", "LookedUp", "Outcome", "Piece", "Ran", "Reading", "Rule", "Session", "SessionTaken", "Started",
+    "Taken", "Written", "apply", "columns", "explain", "fresh", "join", "learn", "lookup", "read", "rule_of", "run", "session_start", "session_take",
+    "shared", "sheet", "state_of", "take", "transition", "transition_of", "version", "write_sheet",
 ]

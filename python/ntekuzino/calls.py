@@ -22,8 +22,9 @@ APPLY = Call(5, "wwc", "w", 7)
 SESSION_START = Call(6, "w", "W", 11)
 SESSION_TAKE = Call(7, "wccccww", "WW", 11)
 READ = Call(8, "", "bW", 4)
-WRITE_SHEET = Call(9, "wc", "wB", 7)
+WRITE_SHEET = Call(9, "wc", "wbbB", 7)
 RUN = Call(10, "", "bWWWB", 1)
+LOOKUP = Call(11, "c", "bb", 3)
 
 #: The program's rooms: list, book and sheet words, and bytes in and out.
 PROGRAM_WORDS = 1_024
@@ -184,6 +185,16 @@ class Ran:
         return self.out[: self.length]
 
 
+class LookedUp(NamedTuple):
+    """A column's name: which text it stands in, 0 the panel's, 1 the maker's; how many bytes are before it and how many it has; and itself.
+    Where there is no name the numbers are 0 and the name is empty."""
+
+    text: int
+    start: int
+    length: int
+    name: bytes
+
+
 class Piece(NamedTuple):
     """A book and a sheet; their counts where they are not their lengths."""
 
@@ -283,12 +294,34 @@ def read(text: Text, list_: Lent = 65_536, *, desk: Desk | None = None) -> Readi
     return Reading(code, place, n, count, after)
 
 
-def write_sheet(n: int, sheet: Sequence[int], sheet_count: int | None = None, out: Lent | bytes | None = None, *, desk: Desk | None = None) -> Written:
-    """Writes a sheet as text. Without `out` the byte slice is as long as the text of so many rules can be."""
+def _text_room(n: int, rules: int) -> int:
+    """How long the text of so many rules can be: its headers with two lines of ten names of 16 characters, and its rows."""
+    return 64 + 2 * (5 + 10 * 17) + rules * (2 * min(n, 10) + 2)
+
+
+def write_sheet(
+    n: int,
+    sheet: Sequence[int],
+    sheet_count: int | None = None,
+    panel: Text = b"",
+    maker: Text = b"",
+    out: Lent | bytes | None = None,
+    *,
+    desk: Desk | None = None,
+) -> Written:
+    """Writes a sheet as text, with names if `lookup` finds one in `panel` and `maker` for every column.
+    Without `out` the byte slice is as long as the text of so many rules can be."""
     count = len(sheet) if sheet_count is None else sheet_count
-    room = 64 + len(sheet) * (2 * min(n, 10) + 2) if out is None else out
-    numbers, (after,) = (desk or shared()).ask(WRITE_SHEET, [n, count], [sheet, lent(room)])
+    room = _text_room(n, len(sheet)) if out is None else out
+    numbers, (after,) = (desk or shared()).ask(WRITE_SHEET, [n, count], [sheet, as_bytes(panel), as_bytes(maker), lent(room)])
     return Written(*_six(numbers), numbers[6], bytes(after))
+
+
+def lookup(panel: Text, maker: Text, column: int, *, desk: Desk | None = None) -> LookedUp:
+    """The name of a column: from the panel's recording text or, if that is good and has no names, from the maker's."""
+    texts = as_bytes(panel), as_bytes(maker)
+    (text, start, length), _ = (desk or shared()).ask(LOOKUP, [column], texts)
+    return LookedUp(text, start, length, texts[text][start : start + length])
 
 
 def run(

@@ -6,15 +6,16 @@ import os
 import signal
 import sys
 from pathlib import Path
-from typing import NoReturn, Sequence
+from typing import NamedTuple, NoReturn, Sequence
 
 from . import __version__, calls, desk as desks
 from .archive import archive
 from .desk import MOST_BYTES, Desk, DeskError
 from .explaining import explained, why_refused
 from .files import CouldNot, could_not
-from .sheets import Outcome, in_library, sheet, sizes
-from .texts import shown_name
+from .naming import judge_suffix, other_names, told_of_maker, with_suffix
+from .sheets import Outcome, in_library, names_of, sheet, sizes
+from .texts import on_which, shown_name
 
 DONE, REFUSED, COULD_NOT = 0, 1, 2
 
@@ -69,22 +70,45 @@ def _tell_refusal(name: str | None, text: bytes, outcome: Outcome, desk: Desk) -
 # ---- the parts
 
 
+def _read_maker(name: str | None) -> bytes:
+    """The maker's text, or an empty one where none is named."""
+    maker = b"" if name is None else read_input(name)
+    if len(maker) > MOST_BYTES:
+        raise CouldNot(f"{shown_name(name or '')} has more than {MOST_BYTES:,} bytes: there is no room for such a maker's text")
+    return maker
+
+
+def _note(name: str | None, note: str) -> None:
+    """On standard error: what is to be known of a sheet that was printed."""
+    say(f"ntekuzino: {'' if name is None else f'{shown_name(name)}: '}{note}")
+
+
+def _one_sheet(name: str | None, maker: bytes, args: argparse.Namespace, desk: Desk) -> bool:
+    """Prints what there is for a recording, and gives whether it is a sheet."""
+    text = read_input(name)
+    outcome = sheet(text, maker=maker, exact=args.exact, desk=desk)
+    # Both may find that there is nothing to print.
+    of_maker = told_of_maker(args.maker, maker, text, outcome.printed, desk) if outcome.done and args.maker is not None else ""
+    printed = outcome.printed if args.next is None else with_suffix(outcome.printed, args.next)
+    if len(args.files) > 1:
+        put(f"# {shown_name(name or '')}\n".encode("utf-8", "replace"))
+    put(printed)
+    if not outcome.done:
+        _tell_refusal(name, text, outcome, desk)
+    elif outcome.in_library:
+        _note(name, f"the program `rulesheet` has no room for this recording; this is the sheet from the library's room, {sizes(printed)[1]:,} rules")
+    if of_maker:
+        _note(name, of_maker)
+    return outcome.done
+
+
 def _sheet(args: argparse.Namespace) -> int:
-    status = DONE
+    if args.next is not None:
+        judge_suffix(args.next)
+    maker = _read_maker(args.maker)
     with Desk() as desk:
-        for name in args.files or [None]:
-            text = read_input(name)
-            outcome = sheet(text, exact=args.exact, desk=desk)
-            if len(args.files) > 1:
-                put(f"# {shown_name(name)}\n".encode("utf-8", "replace"))
-            put(outcome.printed)
-            if not outcome.done:
-                status = REFUSED
-                _tell_refusal(name, text, outcome, desk)
-            elif outcome.in_library:
-                of = "" if name is None else f"{shown_name(name)}: "
-                say(f"ntekuzino: {of}the program `rulesheet` has no room for this recording; this is the sheet from the library's room, {sizes(outcome.printed)[1]:,} rules")
-    return status
+        done = [_one_sheet(name, maker, args, desk) for name in args.files or [None]]
+    return DONE if all(done) else REFUSED
 
 
 def _explain(args: argparse.Namespace) -> int:
@@ -98,8 +122,17 @@ class _Refused(Exception):
     """A recording was refused; it has been told."""
 
 
-def _learned(name: str, desk: Desk) -> tuple[int, calls.Piece]:
-    """Relays, book and sheet of a recording; a refusal is printed."""
+class _Learned(NamedTuple):
+    """A recording that was not refused: its text, relays, names if it has any, book and sheet."""
+
+    text: bytes
+    n: int
+    names: tuple[str, ...]
+    piece: calls.Piece
+
+
+def _learned(name: str, desk: Desk) -> _Learned:
+    """What is learned from a recording; a refusal is printed."""
     text = read_input(name)
     outcome = in_library(text, desk)
     if not outcome.done:
@@ -107,19 +140,31 @@ def _learned(name: str, desk: Desk) -> tuple[int, calls.Piece]:
         _tell_refusal(name, text, outcome, desk)
         raise _Refused
     reading = calls.read(text, desk=desk)
-    return reading.n, calls.learn(reading.n, reading.words, desk=desk).piece
+    return _Learned(text, reading.n, names_of(text, desk), calls.learn(reading.n, reading.words, desk=desk).piece)
 
 
-def _disagreement(n: int, names: Sequence[str], pieces: Sequence[calls.Piece]) -> str:
+def _disagreement(n: int, files: Sequence[str], pieces: Sequence[calls.Piece], names: Sequence[str]) -> str:
     """Where the book of the last piece is against one before it."""
     last = dict(calls.transition_of(word) for word in pieces[-1].book)
-    for name, piece in zip(names, pieces[:-1]):
+    for file, piece in zip(files, pieces[:-1]):
         for word in piece.book:
             state, successor = calls.transition_of(word)
             if last.get(state, successor) != successor:
                 a, b = calls.columns(n, successor), calls.columns(n, last[state])
-                return f"{shown_name(name)} and {shown_name(names[len(pieces) - 1])} disagree on state {calls.columns(n, state)}: {a} follows in one, {b} in the other"
+                both = f"{shown_name(file)} and {shown_name(files[len(pieces) - 1])} disagree on state {calls.columns(n, state)}"
+                return f"{both}: {a} follows in one, {b} in the other{on_which(names, a, b)}"
     return "the recordings disagree on a state"
+
+
+def _judge_one_panel(files: Sequence[str], learned: Sequence[_Learned]) -> None:
+    """Recordings of one panel have equally many relays, and those with names the same ones."""
+    n = learned[0].n
+    for name, other in zip(files, learned):
+        if other.n != n:
+            raise CouldNot(f"{shown_name(files[0])} has {n} relays, {shown_name(name)} has {other.n}: they are not of one panel")
+    differ = other_names(files, [each.names for each in learned])
+    if differ:
+        raise CouldNot(differ)
 
 
 def _join(args: argparse.Namespace) -> int:
@@ -128,25 +173,24 @@ def _join(args: argparse.Namespace) -> int:
             learned = [_learned(name, desk) for name in args.files]
         except _Refused:
             return REFUSED
-        n, whole = learned[0]
-        for name, (other, _) in zip(args.files, learned):
-            if other != n:
-                raise CouldNot(f"{shown_name(args.files[0])} has {n} relays, {shown_name(name)} has {other}: they are not of one panel")
-        pieces = [piece for _, piece in learned]
+        _judge_one_panel(args.files, learned)
+        n, whole = learned[0].n, learned[0].piece
+        named = next((each for each in learned if each.names), learned[0])
+        pieces = [each.piece for each in learned]
         for k, piece in enumerate(pieces[1:], 2):
             joined = calls.join(n, whole, piece, desk=desk)
             if not joined.done:
                 put(b"refused %d at %d\n" % (joined.code, joined.place))
-                more = _disagreement(n, args.files, pieces[:k]) if joined.code == 7 else "the joined sheet has too many rules for the library's room"
+                more = _disagreement(n, args.files, pieces[:k], named.names) if joined.code == 7 else "the joined sheet has too many rules for the library's room"
                 say(f"ntekuzino: {more}")
                 return REFUSED
             whole = joined.piece
-        put(_written(n, whole, desk))
+        put(_written(n, whole, named.text, desk))
     return DONE
 
 
-def _written(n: int, piece: calls.Piece, desk: Desk) -> bytes:
-    written = calls.write_sheet(n, piece.sheet, desk=desk)
+def _written(n: int, piece: calls.Piece, panel: bytes, desk: Desk) -> bytes:
+    written = calls.write_sheet(n, piece.sheet, panel=panel, desk=desk)
     if not written.done:
         raise CouldNot(f"the sheet could not be written: code {written.code}")
     return written.text
@@ -155,12 +199,13 @@ def _written(n: int, piece: calls.Piece, desk: Desk) -> bytes:
 def _apply(args: argparse.Namespace) -> int:
     with Desk() as desk:
         try:
-            n, piece = _learned(args.file, desk)
+            _, n, names, piece = _learned(args.file, desk)
         except _Refused:
             return REFUSED
         for cells in args.states:
             if len(cells) != n or cells.strip("01"):
-                raise CouldNot(f"{shown_name(cells)} is no state of this panel: {n} of 0 and 1, relay 0 leftmost")
+                order = f"for {', '.join(names)}" if names else "relay 0 leftmost"
+                raise CouldNot(f"{shown_name(cells)} is no state of this panel: {n} of 0 and 1, {order}")
         for cells in args.states:
             applied = calls.apply(n, piece.sheet, calls.state_of(cells), desk=desk)
             if not applied.done:
@@ -201,6 +246,8 @@ def _parser() -> argparse.ArgumentParser:
 
     one = part("sheet", "print the sheet of each recording, or `refused C at P`", "ntekuzino sheet recordings/panel.pla", _sheet)
     one.add_argument("files", metavar="FILE", nargs="*", help="recordings; standard input where none is given")
+    one.add_argument("--maker", metavar="TEXT", help="a maker's recording of the panel: its names go into the sheet of a recording that has none")
+    one.add_argument("--next", metavar="SUFFIX", help="put SUFFIX behind the names of the outputs, for other tools; such a sheet is not read here")
     one.add_argument("--exact", action="store_true", help="keep to the room of the program `rulesheet`: 1,024 words, 24,576 bytes")
 
     one = part("explain", "say in words why a recording is refused", "ntekuzino explain recordings/refused-7.pla", _explain)

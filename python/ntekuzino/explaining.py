@@ -2,22 +2,28 @@
 from __future__ import annotations
 
 from dataclasses import dataclass, field
+from typing import Sequence
 
 from . import calls, texts
 from .calls import Text
 from .desk import MOST_BYTES, MOST_WORDS, Desk
-from .sheets import NO_ROOM, Outcome, in_library, in_program, sizes
+from .sheets import NO_ROOM, Outcome, in_library, in_program, names_of, sizes
 from .texts import Line
 
-_HEADERS = (b".i", b".o", b".type", b".p")
+_SIZES = (b".i", b".o")
+_NAMES = (b".ilb", b".ob")
+_HEADERS = (*_SIZES, *_NAMES, b".type", b".p")
+_ENDS = (b".e", b".end")
+_LETTERS = frozenset(b"ABCDEFGHIJKLMNOPQRSTUVWXYZabcdefghijklmnopqrstuvwxyz0123456789_")
+_ORDINALS = ("first", "second", "third", "fourth", "fifth", "sixth", "seventh", "eighth", "ninth", "tenth")
 
 
 @dataclass
 class _Before:
-    """What stands before a line: the line of each header, its value, the first row and the end mark."""
+    """What stands before a line: the line of each header, what it says, the first row and the end mark."""
 
     line: dict[bytes, int] = field(default_factory=dict)
-    value: dict[bytes, bytes] = field(default_factory=dict)
+    says: dict[bytes, tuple[bytes, ...]] = field(default_factory=dict)
     first_row: int = 0
     end: int = 0
 
@@ -27,11 +33,11 @@ def _before(lines: list[Line]) -> _Before:
     for line in lines:
         if line.is_row:
             so_far.first_row = so_far.first_row or line.number
-        elif line.fields and line.fields[0] in (b".e", b".end"):
+        elif line.fields and line.fields[0] in _ENDS:
             so_far.end = line.number
         elif line.fields:
             so_far.line[line.fields[0]] = line.number
-            so_far.value[line.fields[0]] = line.fields[-1]
+            so_far.says[line.fields[0]] = line.fields[1:]
     return so_far
 
 
@@ -43,21 +49,74 @@ def _count(number: int, one: str, many: str) -> str:
     return f"{number:,} {one if number == 1 else many}"
 
 
-def _missing(so_far: _Before) -> str:
-    gone = [name for name in (b".i", b".o") if name not in so_far.line]
-    return " and ".join(_named(name) for name in gone)
+def _other(two: tuple[bytes, bytes], name: bytes) -> bytes:
+    return two[1] if name == two[0] else two[0]
+
+
+def _lacking(so_far: _Before, where: str) -> str:
+    """What must stand before the first row or the end mark, and does not."""
+    gone = [name for name in _SIZES if name not in so_far.line]
+    if gone:
+        return f"Before {where} there must be {' and '.join(_named(name) for name in gone)}."
+    alone = [name for name in _NAMES if name in so_far.line]
+    if len(alone) == 1:
+        return f"{_named(alone[0])} in line {so_far.line[alone[0]]} has no {_named(_other(_NAMES, alone[0]))} beside it before {where}; a recording has both or neither."
+    return ""
 
 
 def _size_fault(line: Line, so_far: _Before) -> str:
     name, value = line.fields[0], line.fields[1]
-    other = b".o" if name == b".i" else b".i"
+    other = _other(_SIZES, name)
     if not value.isdigit():
         return f"{_named(value)} is no number."
     if value.startswith(b"0") or len(value) > 2 or int(value) > 10:
         return f"A panel has 1 to 10 relays, written without leading zeros; {_named(value)} is none of them."
-    if so_far.value.get(other) not in (None, value):
-        return f"{_named(other)} in line {so_far.line[other]} says {texts.shown(so_far.value[other])}; inputs and outputs must be equally many."
+    if so_far.says.get(other) not in (None, (value,)):
+        return f"{_named(other)} in line {so_far.line[other]} says {texts.shown(so_far.says[other][0])}; inputs and outputs must be equally many."
+    for names in _NAMES:
+        if names in so_far.line and len(so_far.says[names]) != int(value):
+            return f"{_named(name)} says {int(value)}, but {_named(names)} in line {so_far.line[names]} has {_count(len(so_far.says[names]), 'name', 'names')}."
     return ""
+
+
+def _name_fault(names: tuple[bytes, ...], k: int) -> str:
+    """What is wrong with a name by itself, and beside those before it."""
+    name = names[k]
+    this = f"The {_ORDINALS[k]} name, {_named(name)},"
+    wrong = next((at for at, byte in enumerate(name) if byte not in _LETTERS), None)
+    if wrong is not None:
+        return f"{this} has {_named(name[wrong : wrong + 1])} in it; a name has letters, digits and underscores, and blanks part the names."
+    if len(name) > 16:
+        return f"{this} has {len(name)} characters; a name has 1 to 16."
+    if name in names[:k]:
+        return f"{this} is the {_ORDINALS[names.index(name)]} as well; the names of a line differ."
+    return ""
+
+
+def _names_differ(line: Line, other: bytes, so_far: _Before) -> str:
+    """Where a name line is not that of the inputs or outputs before it."""
+    here, there = line.fields[1:], so_far.says[other]
+    before = f"{_named(other)} in line {so_far.line[other]}"
+    if len(here) != len(there):
+        return f"{before} has {_count(len(there), 'name', 'names')}, {_named(line.fields[0])} has {len(here)}; both must have the same."
+    k = next((k for k, (a, b) in enumerate(zip(here, there)) if a != b), None)
+    return "" if k is None else f"{before} has other names: the {_ORDINALS[k]} is {_named(there[k])} there and {_named(here[k])} here."
+
+
+def _names_fault(line: Line, so_far: _Before) -> str:
+    key, names = line.fields[0], line.fields[1:]
+    if not names:
+        return f"{_named(key)} has no names; it takes one for each relay."
+    if len(names) > 10:
+        return f"{_named(key)} has {len(names)} names; a panel has 1 to 10 relays."
+    wrong = next((fault for fault in (_name_fault(names, k) for k in range(len(names))) if fault), "")
+    if wrong:
+        return wrong
+    for size in _SIZES:
+        if size in so_far.line and int(so_far.says[size][0]) != len(names):
+            return f"{_named(size)} in line {so_far.line[size]} says {texts.shown(so_far.says[size][0])}, but {_named(key)} has {_count(len(names), 'name', 'names')}."
+    other = _other(_NAMES, key)
+    return _names_differ(line, other, so_far) if other in so_far.line else ""
 
 
 def _p_fault(line: Line, rows: int) -> str:
@@ -66,17 +125,20 @@ def _p_fault(line: Line, rows: int) -> str:
         return f"{_named(value)} is no number."
     if value.startswith(b"0") and value != b"0":
         return "A number has no leading zeros."
-    return f"It says {texts.shown(value)}, but the text has {_count(rows, 'row', 'rows')}."
+    # Of any length, so it is not made a number.
+    return "" if value == b"%d" % rows else f"It says {texts.shown(value)}, but the text has {_count(rows, 'row', 'rows')}."
 
 
 def _header_fault(line: Line, so_far: _Before, rows: int) -> str:
     name = line.fields[0]
     if name not in _HEADERS:
-        return f"{_named(name)} is no header of a recording: they are `.i`, `.o`, `.type`, `.p`, and `.e` or `.end` at the end."
+        return f"{_named(name)} is no header of a recording: they are `.i`, `.o`, `.ilb`, `.ob`, `.type`, `.p`, and `.e` or `.end` at the end."
     if name in so_far.line:
         return f"{_named(name)} stands twice: line {so_far.line[name]} has it already."
     if so_far.first_row:
         return f"Headers stand before the first row, which is line {so_far.first_row}."
+    if name in _NAMES:
+        return _names_fault(line, so_far)
     if len(line.fields) != 2:
         return f"{_named(name)} has {_count(len(line.fields) - 1, 'value', 'values')}; it takes one."
     if name == b".type":
@@ -97,9 +159,10 @@ def _cells_fault(cells: bytes, allowed: bytes, n: int, what: str) -> str:
 
 
 def _row_fault(line: Line, so_far: _Before) -> str:
-    if _missing(so_far):
-        return f"Before the first row there must be {_missing(so_far)}."
-    n = int(so_far.value[b".i"])
+    lacking = _lacking(so_far, "the first row")
+    if lacking:
+        return lacking
+    n = int(so_far.says[b".i"][0])
     fault = _cells_fault(line.fields[0], b"01-", n, "input")
     if fault:
         return fault
@@ -128,39 +191,43 @@ def _marks_fault(line: Line, crs: int) -> str:
     return _odd_byte(line)
 
 
-def _line_fault(text: bytes, place: int) -> tuple[str, str]:
-    """The faulty line as it stands, and what is wrong with it."""
-    all_lines = texts.lines(text)
-    so_far = _before(all_lines[: place - 1])
-    if place > len(all_lines):
-        end = "The text is empty." if not all_lines else f"The text ends after line {len(all_lines)}, with no end mark."
-        return "", end + " A recording ends with a line `.e` or `.end`."
-    line = all_lines[place - 1]
-    crs = sum(each.raw.endswith(b"\r") for each in all_lines)
-    marks = _marks_fault(line, crs)
-    if marks:
-        return texts.shown(line.raw), marks
+def _end_fault(line: Line, so_far: _Before) -> str:
+    alone = "" if len(line.fields) == 1 else f"{_named(line.fields[0])} stands alone on its line."
+    return _lacking(so_far, "the end mark") or alone
+
+
+def line_fault(lines: list[Line], place: int) -> str:
+    """What is wrong with a line, those before it being good; nothing where nothing is found."""
+    line, so_far = lines[place - 1], _before(lines[: place - 1])
+    marks = _marks_fault(line, sum(each.raw.endswith(b"\r") for each in lines))
+    if marks or not line.fields:
+        return marks
     if so_far.end:
-        why = f"After the end mark, line {so_far.end}, only blank lines and comments can follow."
-    elif line.fields and line.fields[0] in (b".e", b".end"):
-        why = f"{_named(line.fields[0])} stands alone on its line."
-        if _missing(so_far):
-            why = f"Before the end mark there must be {_missing(so_far)}."
-    elif line.fields and line.fields[0].startswith(b"."):
-        why = _header_fault(line, so_far, sum(each.is_row for each in all_lines))
-    else:
-        why = _row_fault(line, so_far) if line.fields else ""
-    return texts.shown(line.raw), why or "The line does not belong there."
+        return f"After the end mark, line {so_far.end}, only blank lines and comments can follow."
+    if line.is_row:
+        return _row_fault(line, so_far)
+    if line.fields[0] in _ENDS:
+        return _end_fault(line, so_far)
+    return _header_fault(line, so_far, sum(each.is_row for each in lines))
 
 
-def _other_successor(text: bytes, place: int, n: int, words: list[int]) -> str:
+def why_unread(text: bytes, place: int) -> tuple[str, str]:
+    """Of a text that reading refuses with 11: the faulty line as it stands, and what is wrong with it."""
+    lines = texts.lines(text)
+    if place > len(lines):
+        end = "The text is empty." if not lines else f"The text ends after line {len(lines)}, with no end mark."
+        return "", end + " A recording ends with a line `.e` or `.end`."
+    return texts.shown(lines[place - 1].raw), line_fault(lines, place) or "The line does not belong there."
+
+
+def _other_successor(text: bytes, place: int, n: int, words: list[int], names: Sequence[str]) -> str:
     state, successor = calls.transition_of(words[place])
     first = next(k for k, word in enumerate(words) if calls.transition_of(word)[0] == state)
     a, b = texts.row_of_word(text, first), texts.row_of_word(text, place)
-    told = calls.columns(n, calls.transition_of(words[first])[1])
+    one, other = calls.columns(n, calls.transition_of(words[first])[1]), calls.columns(n, successor)
     return (
         f"Rows {a.number} and {b.number} (lines {a.line} and {b.line}) disagree on state {calls.columns(n, state)}: "
-        f"one says that {told} follows, the other {calls.columns(n, successor)}."
+        f"one says that {one} follows, the other {other}{texts.on_which(names, one, other)}."
     )
 
 
@@ -177,7 +244,7 @@ def _sheet_room(text: bytes, place: int, n: int, words: list[int], room: int, de
 def _why(text: bytes, outcome: Outcome, desk: Desk) -> tuple[str, str]:
     """The faulty line, where there is one, and the reason in words."""
     if outcome.code == 11:
-        return _line_fault(text, outcome.place)
+        return why_unread(text, outcome.place)
     if outcome.code == 13:
         most = MOST_BYTES if outcome.in_library else calls.PROGRAM_BYTES
         # Of a longer file no more was read.
@@ -189,7 +256,7 @@ def _why(text: bytes, outcome: Outcome, desk: Desk) -> tuple[str, str]:
         return "", f"The rows stand for {states:,} states, repeats counted; there is room for {room:,}."
     reading = calls.read(text, MOST_WORDS, desk=desk)
     if outcome.code == 7:
-        return "", _other_successor(text, outcome.place, reading.n, reading.words)
+        return "", _other_successor(text, outcome.place, reading.n, reading.words, names_of(text, desk))
     if outcome.code == 9:
         return "", _sheet_room(text, outcome.place, reading.n, reading.words, room, desk)
     return "", ""

@@ -1,14 +1,16 @@
 """From a recording's text to what is printed: in the program's rooms first, then, where these are too small, in the library's."""
 from __future__ import annotations
 
+import itertools
 import re
-from dataclasses import dataclass
+from dataclasses import dataclass, replace
 
 from . import calls
 from .calls import Text
 from .desk import MOST_BYTES, MOST_WORDS, Desk, DeskError
 
 _REFUSAL = re.compile(rb"refused (\d+) at (\d+)\n")
+_SIZES = re.compile(rb"\.i (\d+)\n(?:\..*\n)*?\.p (\d+)\n")
 
 #: Codes that say that a room was too small: for the list or book, for the sheet, for the text.
 NO_ROOM = (8, 9, 13)
@@ -48,8 +50,8 @@ def in_program(text: bytes, desk: Desk) -> Outcome:
     raise DeskError("what the desk answered is neither a sheet nor a refusal")
 
 
-def in_library(text: bytes, desk: Desk) -> Outcome:
-    """The same with 65,536 words for the list and for the sheet, and a text of up to 2,097,152 bytes."""
+def in_library(text: bytes, desk: Desk, maker: bytes = b"") -> Outcome:
+    """The same with 65,536 words for the list and for the sheet, and texts of up to 2,097,152 bytes; names are the recording's, or else the maker's."""
     if len(text) > MOST_BYTES:
         return _refusal(13, 0, True)
     reading = calls.read(text, MOST_WORDS, desk=desk)
@@ -58,22 +60,33 @@ def in_library(text: bytes, desk: Desk) -> Outcome:
     learned = calls.learn(reading.n, reading.words, desk=desk)
     if not learned.done:
         return _refusal(learned.code, learned.place, True)
-    written = calls.write_sheet(reading.n, learned.piece.sheet, desk=desk)
+    written = calls.write_sheet(reading.n, learned.piece.sheet, panel=text, maker=maker, desk=desk)
     if not written.done:
         return _refusal(written.code, written.place, True)
     return Outcome(written.text, 0, 0, True)
 
 
-def sheet(text: Text, *, exact: bool = False, desk: Desk | None = None) -> Outcome:
-    """What `rulesheet` prints; unless `exact`, in the library's rooms where the program's are too small."""
-    desk, sent = desk or calls.shared(), calls.as_bytes(text)
+def sheet(text: Text, *, maker: Text = b"", exact: bool = False, desk: Desk | None = None) -> Outcome:
+    """What `rulesheet` prints; unless `exact`, in the library's rooms where the program's are too small. A recording without names has the maker's."""
+    desk, sent, of_maker = desk or calls.shared(), calls.as_bytes(text), calls.as_bytes(maker)
     outcome = in_program(sent, desk)
+    if outcome.done and of_maker:
+        # The program is lent no maker's text. The library is, and has room for what the program has room for: the same sheet, with names.
+        return replace(in_library(sent, desk, of_maker), in_library=False)
     if exact or outcome.code not in NO_ROOM:
         return outcome
-    return in_library(sent, desk)
+    return in_library(sent, desk, of_maker)
 
 
 def sizes(printed: bytes) -> tuple[int, int]:
     """Relays and rules of a printed sheet."""
-    fields = printed.split(maxsplit=8)
-    return int(fields[1]), int(fields[7])
+    told = _SIZES.match(printed)
+    if told is None:
+        raise ValueError("this is no sheet")
+    return int(told[1]), int(told[2])
+
+
+def names_of(text: bytes, desk: Desk, maker: bytes = b"") -> tuple[str, ...]:
+    """The names of a recording, as the library looks them up: one for each of its relays, or none. Else those of the maker's text."""
+    found = (calls.lookup(text, maker, column, desk=desk).name.decode("ascii") for column in itertools.count())
+    return tuple(itertools.takewhile(bool, found))

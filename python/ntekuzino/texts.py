@@ -2,7 +2,7 @@
 from __future__ import annotations
 
 from dataclasses import dataclass
-from typing import Iterator
+from typing import Iterator, Sequence
 
 BLANKS = b" \t"
 
@@ -63,6 +63,12 @@ def row_of_word(text: bytes, index: int) -> Row:
             return row
         index -= row.states
     raise ValueError("the text has no such word")
+
+
+def on_which(names: Sequence[str], a: str, b: str) -> str:
+    """The end of a sentence about two states, written as columns: the relays on which they differ, by name; nothing where these have none."""
+    differing = [name for name, x, y in zip(names, a, b) if x != y]
+    return f"; they differ on {', '.join(differing)}" if differing else ""
 
 
 def shown(raw: bytes) -> str:

@@ -64,6 +64,8 @@ class Answers(Archived):
             r"cell-cycle-shuffled\.pla +10 +1024 +22  sheet, library's room",
             r"refused-7\.pla +1 +2 +-  refused 7 at 1",
             r"refused-11-nul\.pla +- +- +-  refused 11 at 4",
+            r"dairy-tank\.pla +5 +7 +40  sheet",
+            r"refused-11-names-dot\.pla +- +- +-  refused 11 at 5",
         ):
             self.assertRegex(printed, rf"(?m)^{row}$")
         self.assertIn("passed over: README.md: its name does not end in .pla\n", printed)
@@ -294,6 +296,7 @@ class Told(Archived):
         self.add("good", PANEL)
         self.add("bad, \"so\"", BAD)
         self.add("cr", PANEL.replace(b"\n", b"\r\n"))
+        self.add("named", recording("refused-11-names-swapped"))
         self.run_(1)
         with open(self.out / "table.csv", newline="", encoding="utf-8") as file:
             rows = {row["file"]: row for row in csv.DictReader(file)}
@@ -304,6 +307,7 @@ class Told(Archived):
         self.assertLess(page.index("bad, &quot;so&quot;.pla"), page.index("good.pla"))
         self.assertIn("ends with CR", page)
         self.assertIn("Rows 1 and 2 (lines", page)
+        self.assertIn("<code>.ilb</code> in line 5 has other names: the first is <code>a</code> there and <code>b</code> here.<br><code>.ob b a</code>", page)
         for target in Links(page).targets(self.out):
             self.assertTrue(os.path.exists(target), target)
 

@@ -3,8 +3,10 @@ from __future__ import annotations
 
 import doctest
 import os
+import re
 import shlex
 import sys
+import textwrap
 import threading
 import unittest
 
@@ -14,6 +16,9 @@ from ntekuzino import Desk, DeskError, Piece, Session, calls, desk as desks
 
 K9 = [2048, 1053696, 2097153]
 PANEL_WORDS = [7171, 3073, 1024, 4, 4100, 6149, 5122, 2053]
+# Document 000's panel has no names; these are a maker's.
+NAMES = b".ilb PUMP VALVE HEAT\n.ob PUMP VALVE HEAT\n"
+MAKER = b".i 3\n.o 3\n" + NAMES + b".e\n"
 
 
 class BenchExamples(unittest.TestCase):
@@ -72,6 +77,27 @@ class BenchExamples(unittest.TestCase):
         ran = ntekuzino.run(helping.PANEL, desk=self.desk)
         self.assertEqual((ran.text, ran.sheet[:3]), (helping.PANEL_SHEET, K9))
 
+    def test_names(self) -> None:
+        named = helping.PANEL_SHEET.replace(b".o 3\n", b".o 3\n" + NAMES)
+        for panel, maker, text in [
+            (helping.PANEL, MAKER, named), (MAKER, b"junk", named), (MAKER.decode(), "", named), (helping.recording("names-no-rows"), MAKER, helping.PANEL_SHEET),
+            (helping.PANEL, b"junk", helping.PANEL_SHEET), (b"junk", MAKER, helping.PANEL_SHEET), (b"", MAKER, helping.PANEL_SHEET),
+        ]:
+            self.assertEqual(ntekuzino.write_sheet(3, K9, panel=panel, maker=maker, desk=self.desk).text, text, (panel, maker))
+        refused = ntekuzino.write_sheet(3, K9, panel=MAKER, out=len(named) - 1, desk=self.desk)
+        self.assertEqual((refused.code, refused.text), (12, b""))
+        longest = helping.recording("names-of-sixteen")
+        self.assertEqual(ntekuzino.write_sheet(10, [], panel=longest, desk=self.desk).text.splitlines()[2:4], longest.splitlines()[4:6])
+
+    def test_lookup(self) -> None:
+        nothing = ntekuzino.LookedUp(0, 0, 0, b"")
+        for panel, maker, column, found in [
+            (MAKER, b"", 0, ntekuzino.LookedUp(0, 15, 4, b"PUMP")), (helping.PANEL, MAKER, 2, ntekuzino.LookedUp(1, 26, 4, b"HEAT")),
+            (MAKER, b"junk", 1, ntekuzino.LookedUp(0, 20, 5, b"VALVE")), (helping.PANEL.decode(), MAKER.decode(), 1, ntekuzino.LookedUp(1, 20, 5, b"VALVE")),
+            (MAKER, MAKER, 3, nothing), (MAKER, b"", 2**64 - 1, nothing), (helping.PANEL, helping.PANEL, 0, nothing), (b"", MAKER, 0, nothing), (helping.PANEL, b"junk", 0, nothing),
+        ]:
+            self.assertEqual(ntekuzino.lookup(panel, maker, column, desk=self.desk), found, (panel, maker, column))
+
     def test_largest_slices(self) -> None:
         text = b"#" * desks.MOST_BYTES
         self.assertEqual(ntekuzino.read(text, desk=self.desk).place, 2)
@@ -86,6 +112,7 @@ class BenchExamples(unittest.TestCase):
             lambda: ntekuzino.fresh(1, [2**32], desk=self.desk),
             lambda: ntekuzino.fresh(-1, 1, desk=self.desk),
             lambda: ntekuzino.write_sheet(1, [0], out=[256], desk=self.desk),
+            lambda: ntekuzino.lookup(b"", b"", 2**64, desk=self.desk),
         ):
             with self.assertRaises((ValueError, OverflowError)):
                 make()
@@ -108,6 +135,14 @@ class Words(unittest.TestCase):
         for told in (doctest.testmod(ntekuzino), doctest.testfile(str(helping.ROOT / "README.md"), module_relative=False)):
             self.assertEqual(told.failed, 0)
             self.assertGreater(told.attempted, 2)
+
+    def test_recordings_told(self) -> None:
+        """README.md's tank is the stored one, and the rows that it reads stand in its sheet."""
+        readme = (helping.ROOT / "README.md").read_text()
+        self.assertIn(textwrap.indent(helping.recording("dairy-tank").decode(), "    "), readme)
+        rows = re.findall(r"(?m)^\| `([01-]{5} [01]{5})` \|", readme)
+        self.assertEqual([row for row in rows if f"\n{row}\n" not in helping.stored("dairy-tank").decode()], [])
+        self.assertEqual(len(rows), 5)
 
     def test_versions_agree(self) -> None:
         header = (helping.ROOT / "include" / "ntekuzino.h").read_text()

@@ -9,6 +9,12 @@ from . import helping
 from .helping import PANEL, PANEL_SHEET, RECORDINGS, ROOT, InFolder, at_terminal, ran
 
 RULESHEET, NTEKUZINO = ROOT / "rulesheet", ROOT / "ntekuzino"
+NAMES = b".ilb PUMP VALVE HEAT\n.ob PUMP VALVE HEAT\n"
+
+
+def with_names(text: bytes, names: bytes = NAMES) -> bytes:
+    """A recording, or a sheet, with name lines after `.o`."""
+    return text.replace(b".o 3\n", b".o 3\n" + names)
 
 
 class Rulesheet(InFolder):
@@ -132,7 +138,7 @@ class Ntekuzino(InFolder):
             done = ran(NTEKUZINO, part, "--help")
             self.assertEqual(done.returncode, 0)
             self.assertIn(b"Example: ntekuzino " + part.encode(), done.stdout)
-        self.assertRegex(ran(NTEKUZINO, "--version").stdout, rb"^package 1\.\d+\.\d+, library ntekuzino 1\.\d+\.\d+ [0-9a-f]{64}\n$")
+        self.assertRegex(ran(NTEKUZINO, "--version").stdout, rb"^package 2\.\d+\.\d+, library ntekuzino 2\.\d+\.\d+ [0-9a-f]{64}\n$")
 
     def test_could_not(self) -> None:
         self.put("folder/file", b"")
@@ -160,6 +166,101 @@ class Ntekuzino(InFolder):
             self.assertIn(b"ntekuzino: the desk", done.stderr)
 
 
+class Names(InFolder):
+    """Names in sheets: the recording's own, a maker's, those of recordings joined, and those made different for other tools."""
+
+    def sheet(self, *words: object) -> bytes:
+        done = ran(NTEKUZINO, "sheet", *words)
+        self.assertEqual((done.returncode, done.stderr), (0, b""))
+        return done.stdout
+
+    def could_not(self, said: bytes, *words: object) -> None:
+        done = ran(NTEKUZINO, *words, cwd=self.folder)
+        self.assertEqual((done.returncode, done.stdout, done.stderr), (2, b"", b"ntekuzino: " + said + b"\n"))
+
+    def test_own(self) -> None:
+        tank = RECORDINGS / "dairy-tank.pla"
+        for words in ([], ["--exact"], ["--maker", self.put("junk", b"junk")]):
+            self.assertEqual(self.sheet(*words, tank), helping.stored("dairy-tank"))
+        self.assertEqual(ran(RULESHEET, tank).stdout, helping.stored("dairy-tank"))
+
+    def test_maker(self) -> None:
+        maker, panel = self.put("maker", with_names(b".i 3\n.o 3\n.e\n")), self.put("panel", PANEL)
+        for words in ([], ["--exact"]):
+            self.assertEqual(self.sheet("--maker", maker, *words, panel), with_names(PANEL_SHEET))
+        done = ran(NTEKUZINO, "sheet", "--maker", maker, input=PANEL)
+        self.assertEqual((done.returncode, done.stdout), (0, with_names(PANEL_SHEET)))
+        # A recording that is refused is refused as ever.
+        done = ran(NTEKUZINO, "sheet", "--maker", self.put("junk", b"junk"), RECORDINGS / "refused-7.pla")
+        self.assertEqual((done.returncode, done.stdout), (1, b"refused 7 at 1\n"))
+        done = ran(NTEKUZINO, "sheet", "--maker", RECORDINGS / "dairy-tank.pla", "panel", cwd=self.folder)
+        self.assertEqual((done.returncode, done.stdout), (0, with_names(PANEL_SHEET, b".ilb PUMP VALVE FLOAT\n.ob PUMP VALVE FLOAT\n")))
+        self.assertEqual(done.stderr, f"ntekuzino: panel: {RECORDINGS}/dairy-tank.pla names 5 relays, the recording has 3; it is given the first names\n".encode())
+
+    def test_a_maker_without_names(self) -> None:
+        self.put("panel", PANEL)
+        for text, why in [
+            (b"", b"line 1 breaks the layout. The text is empty. A recording ends with a line `.e` or `.end`."),
+            (with_names(b".i 3\n.o 3\n.e\n", b".ilb A B C-1\n"), b"line 3 breaks the layout. The third name, `C-1`, has `-` in it; a name has letters, digits and underscores, and blanks part the names."),
+            (with_names(PANEL, b".p 1\n"), b"line 3 breaks the layout. It says 1, but the text has 8 rows."),
+            (PANEL, b"it has no lines `.ilb` and `.ob`."),
+            (helping.recording("names"), b"it names 2 of the recording's 3 relays."),
+        ]:
+            self.put("maker", text)
+            self.could_not(b"maker gives no names: " + why, "sheet", "--maker", "maker", "panel")
+        self.put("maker", b"#" * 2_097_153)
+        self.could_not(b"maker has more than 2,097,152 bytes: there is no room for such a maker's text", "sheet", "--maker", "maker", "panel")
+        self.could_not(b"cannot read nowhere: No such file or directory", "sheet", "--maker", "nowhere", "panel")
+
+    def test_next(self) -> None:
+        named = self.put("named", with_names(PANEL))
+        self.assertEqual(self.sheet("--next", "_next", named), with_names(PANEL_SHEET, b".ilb PUMP VALVE HEAT\n.ob PUMP_next VALVE_next HEAT_next\n"))
+        self.assertEqual(self.sheet("--next", "1", "--maker", named, RECORDINGS / "panel.pla"), with_names(PANEL_SHEET, b".ilb PUMP VALVE HEAT\n.ob PUMP1 VALVE1 HEAT1\n"))
+        # No names, no suffix; and a refusal is no sheet.
+        self.assertEqual(self.sheet("--next", "_next", RECORDINGS / "panel.pla"), PANEL_SHEET)
+        done = ran(NTEKUZINO, "sheet", "--next", "_next", RECORDINGS / "refused-11-names-dot.pla")
+        self.assertEqual((done.returncode, done.stdout), (1, b"refused 11 at 5\n"))
+        # It is for other tools: such names are not read here.
+        done = ran(NTEKUZINO, "sheet", input=with_names(PANEL, b".ilb PUMP VALVE HEAT\n.ob PUMP_next VALVE_next HEAT_next\n"))
+        self.assertEqual((done.returncode, done.stdout), (1, b"refused 11 at 4\n"))
+
+    def test_no_suffix(self) -> None:
+        self.put("named", with_names(PANEL, b".ilb A B A_next\n.ob A B A_next\n"))
+        for suffix in ("", " ", "_next ", "n#xt", "näxt", "a\n"):
+            shown = suffix.replace("\n", "\\x0a").encode()
+            self.could_not(b"--next " + shown + b": a suffix has one or more letters, digits or underscores", "sheet", "--next", suffix, "named")
+        self.could_not(b"--next _next gives the output of A the name of the input A_next: take another suffix", "sheet", "--next", "_next", "named")
+        self.assertEqual(self.sheet("--next", "_", self.folder / "named").splitlines()[3], b".ob A_ B_ A_next_")
+
+    def test_join(self) -> None:
+        """Named and nameless recordings of one panel, in any order."""
+        head, rows = with_names(b".i 3\n.o 3\n.type fr\n"), [line for line in PANEL.splitlines(True) if line[:1] in b"01"]
+        named = [self.put(f"named-{k}", head + b"".join(rows[k : k + 4]) + b".e\n") for k in (0, 4)]
+        nameless = self.put("nameless", PANEL)
+        for files in (named, named[::-1], [nameless, *named], [nameless, named[1]]):
+            done = ran(NTEKUZINO, "join", *files)
+            self.assertEqual((done.returncode, done.stdout, done.stderr), (0, with_names(PANEL_SHEET), b""))
+        self.assertEqual(ran(NTEKUZINO, "join", nameless, nameless).stdout, PANEL_SHEET)
+
+    def test_join_other_names(self) -> None:
+        self.put("a", PANEL)
+        self.put("b", with_names(PANEL))
+        self.put("c", with_names(PANEL, b".ilb PUMP FLOAT HEAT\n.ob PUMP FLOAT HEAT\n"))
+        self.could_not(b"b and c call relay 1 differently: VALVE in one, FLOAT in the other", "join", "a", "b", "b", "c")
+
+    def test_join_disagreement(self) -> None:
+        named = b".i 2\n.o 2\n.ilb PUMP VALVE\n.ob PUMP VALVE\n10 01\n.e\n"
+        done = ran(NTEKUZINO, "join", self.put("a", b".i 2\n.o 2\n10 11\n.e\n"), self.put("b", named))
+        self.assertEqual((done.returncode, done.stdout), (1, b"refused 7 at 0\n"))
+        self.assertIn(b"disagree on state 10: 11 follows in one, 01 in the other; they differ on PUMP\n", done.stderr)
+
+    def test_apply(self) -> None:
+        self.put("named", with_names(PANEL))
+        done = ran(NTEKUZINO, "apply", "named", "111", "101", cwd=self.folder)
+        self.assertEqual((done.returncode, done.stdout, done.stderr), (0, b"111 110\n101 010\n", b""))
+        self.could_not(b"11 is no state of this panel: 3 of 0 and 1, for PUMP, VALVE, HEAT", "apply", "named", "11")
+
+
 class FirstBuild(InFolder):
     """The build in a clone that has nothing yet, with a stand-in for rt that proves nothing."""
 
@@ -176,8 +277,8 @@ class FirstBuild(InFolder):
         done = ran(self.folder / "clone/tools/program", "--built", "rulesheet", env=env)
         self.assertEqual((done.returncode, done.stdout), (0, b""))
         # The program, what crates.txt says it needs, and what that needs; the kit's libraries are not ours to prove.
-        self.assertIn(b"proving 17 crates and building rulesheet", done.stderr)
-        self.assertIn(b"proving: 3 of 17 crates, ", done.stderr)
+        self.assertIn(b"proving 19 crates and building rulesheet", done.stderr)
+        self.assertIn(b"proving: 3 of 19 crates, ", done.stderr)
         self.assertNotIn(b"noise", done.stderr)
         self.assertIn("noise", (self.folder / "clone/target/prove-rulesheet.log").read_text())
         self.assertEqual(ran(self.folder / "clone/tools/program", "--built", "rulesheet", env=env).stderr, b"")

@@ -5,11 +5,12 @@ import random
 import unittest
 
 from . import helping
-from ntekuzino import Desk
-from ntekuzino.explaining import explained, why_refused
-from ntekuzino.sheets import in_library, in_program, sheet
+from ntekuzino import Desk, texts
+from ntekuzino.explaining import explained, line_fault, why_refused
+from ntekuzino.sheets import Outcome, in_library, in_program, sheet
 
 HEAD = b".i 3\n.o 3\n.type fr\n"
+NAMED = HEAD + b".ilb PUMP VALVE HEAT\n.ob PUMP VALVE HEAT\n"
 
 # A text, the line that is refused, and words of the explanation.
 FAULTS = [
@@ -50,9 +51,49 @@ FAULTS = [
     (HEAD + b"111\xa0110\n", "refused 11 at 4", "Byte 4 of the line is 160 (hexadecimal a0)"),
     (HEAD + b"\x00\n", "refused 11 at 4", "Byte 1 of the line is 0"),
     (HEAD + b"000 001\n-11 110\n\n# here\n1-1 010\n.e\n", "refused 7 at 4", "Rows 2 and 3 (lines 5 and 8) disagree on state 111: one says that 110 follows, the other 010"),
+    (NAMED + b"111 110\n111 001\n.e\n", "refused 7 at 1", "one says that 110 follows, the other 001; they differ on PUMP, VALVE, HEAT."),
+    (NAMED + b"111 110\n111 100\n.e\n", "refused 7 at 1", "one says that 110 follows, the other 100; they differ on VALVE."),
+    (HEAD + b"111 110\n111 100\n.e\n", "refused 7 at 1", "one says that 110 follows, the other 100."),
+    (HEAD + b".ilb\n", "refused 11 at 4", "`.ilb` has no names; it takes one for each relay"),
+    (b".ob a b c d e f g h i j k\n", "refused 11 at 1", "`.ob` has 11 names; a panel has 1 to 10 relays"),
+    (HEAD + b".ilb PUMP VALVE-1 HEAT\n", "refused 11 at 4", "The second name, `VALVE-1`, has `-` in it; a name has letters, digits and underscores"),
+    (HEAD + b".ilb PUMP, VALVE, HEAT\n", "refused 11 at 4", "The first name, `PUMP,`, has `,` in it; a name has letters, digits and underscores, and blanks part the names"),
+    (HEAD + b".ilb PUMP VALVE .HEAT\n", "refused 11 at 4", "The third name, `.HEAT`, has `.` in it"),
+    (HEAD + b".ilb PUMP VALVE K\xc4LTE\n", "refused 11 at 4", "Byte 18 of the line is 196 (hexadecimal c4)"),
+    (b".ob a abcdefghijklmnopq\n", "refused 11 at 1", "The second name, `abcdefghijklmnopq`, has 17 characters; a name has 1 to 16"),
+    (HEAD + b".ilb PUMP VALVE PUMP\n", "refused 11 at 4", "The third name, `PUMP`, is the first as well; the names of a line differ"),
+    (HEAD + b".ilb PUMP VALVE\n", "refused 11 at 4", "`.i` in line 1 says 3, but `.ilb` has 2 names"),
+    (b".o 2\n.ob PUMP\n", "refused 11 at 2", "`.o` in line 1 says 2, but `.ob` has 1 name."),
+    (b".ilb A B C D\n.i 3\n", "refused 11 at 2", "`.i` says 3, but `.ilb` in line 1 has 4 names"),
+    (b".i 1\n.ob A\n.o 2\n", "refused 11 at 3", "`.i` in line 1 says 1"),
+    (b".ob A\n.o 2\n", "refused 11 at 2", "`.o` says 2, but `.ob` in line 1 has 1 name."),
+    (HEAD + b".ilb PUMP VALVE HEAT\n.ob PUMP VALVE HEAR\n", "refused 11 at 5", "`.ilb` in line 4 has other names: the third is `HEAT` there and `HEAR` here"),
+    (HEAD + b".ob PUMP VALVE HEAT\n.ilb PUMP valve HEAT\n", "refused 11 at 5", "`.ob` in line 4 has other names: the second is `VALVE` there and `valve` here"),
+    (b".ilb A B\n.ob A\n", "refused 11 at 2", "`.ilb` in line 1 has 2 names, `.ob` has 1; both must have the same"),
+    (HEAD + b".ilb PUMP VALVE HEAT\n111 110\n", "refused 11 at 5", "`.ilb` in line 4 has no `.ob` beside it before the first row; a recording has both or neither"),
+    (HEAD + b".ob PUMP VALVE HEAT\n.e\n", "refused 11 at 5", "`.ob` in line 4 has no `.ilb` beside it before the end mark"),
+    (HEAD + b".ilb PUMP VALVE HEAT\n", "refused 11 at 5", "ends after line 4, with no end mark"),
+    (NAMED + b".ilb PUMP VALVE HEAT\n", "refused 11 at 6", "`.ilb` stands twice: line 4 has it already"),
+    (HEAD + b"111 110\n.ilb PUMP VALVE HEAT\n", "refused 11 at 5", "before the first row, which is line 4"),
+    (NAMED + b".e\n.ob PUMP VALVE HEAT\n", "refused 11 at 7", "After the end mark, line 6"),
+    (HEAD + b".ilbA B C\n", "refused 11 at 4", "`.ilbA` is no header of a recording: they are `.i`, `.o`, `.ilb`, `.ob`"),
+    (HEAD + b".ilb PUMP VALVE HEAT\r\n", "refused 11 at 4", "ends with CR"),
     (b"#" * 24577, "refused 13 at 0", "The text has 24,577 bytes; there is room for 24,576"),
     (b".i 10\n.o 10\n" + b"---------- 0000000000\n" * 65 + b".e\n", "refused 8 at 0", "The rows stand for 66,560 states"),
 ]
+
+
+def damaged(text: bytes, chance: random.Random) -> bytes:
+    """A text with bytes put in, taken out or changed, and with lines that change places, are gone or stand twice."""
+    lines = text.splitlines(True)
+    for _ in range(chance.randrange(3)):
+        line, at = lines.pop(chance.randrange(len(lines))), chance.randrange(len(lines))
+        lines[at:at] = [line] * chance.choice([0, 1, 1, 2])
+    after = bytearray(b"".join(lines))
+    for _ in range(chance.randrange(3)):
+        at = chance.randrange(len(after))
+        after[at : at + chance.randrange(2)] = bytes(chance.choices(b"01-.# \t\nieoptyfrlbAPUM_23\r\xff", k=chance.randrange(3)))
+    return bytes(after)
 
 
 class Explained(unittest.TestCase):
@@ -88,17 +129,30 @@ class Explained(unittest.TestCase):
         self.assertIn("of 22 rules: `ntekuzino sheet` prints it", told)
 
     def test_damaged_texts(self) -> None:
-        """Whatever stands there: the code is the library's, and there is a sentence."""
+        """Whatever stands there: the code is the library's, and there is a sentence, for the library's line and for none before it."""
         chance = random.Random(12)
-        for _ in range(300):
-            text = bytearray(chance.choice([helping.PANEL, HEAD + b".p 1\n1-1 010 # c\n.e\n"]))
-            for _ in range(chance.randrange(1, 3)):
-                at = chance.randrange(len(text))
-                text[at : at + chance.randrange(2)] = bytes(chance.choices(b"01-.# \t\nieoptyfr23\r\xff", k=chance.randrange(3)))
-            outcome = in_program(bytes(text), self.desk)
+        whole = [helping.PANEL, HEAD + b".p 1\n1-1 010 # c\n.e\n", NAMED + b"1-1 010\n.e\n", b".ob A B_1 # c\n.i 2\n.ilb\tA  B_1\n.o 2\n0- 01\n.end\n"]
+        refused = 0
+        for _ in range(1500):
+            text = damaged(chance.choice(whole), chance)
+            outcome = in_program(text, self.desk)
             if not outcome.done:
-                with self.subTest(bytes(text)):
-                    self.assertTrue(why_refused(bytes(text), outcome, self.desk).why)
+                refused += 1
+                with self.subTest(text):
+                    self.assert_explained(text, outcome)
+        self.assertGreater(refused, 1000)
+
+    def assert_explained(self, text: bytes, outcome: Outcome) -> None:
+        told = why_refused(text, outcome, self.desk)
+        self.assertTrue(told.why)
+        if outcome.code != 11:
+            return
+        self.assertNotIn("does not belong there", told.why)
+        lines = texts.lines(text)
+        for line in lines[: outcome.place - 1]:
+            # The number after `.p` is compared last.
+            if line.fields[:1] != (b".p",):
+                self.assertEqual(line_fault(lines, line.number), "", line.number)
 
 
 class Rooms(unittest.TestCase):
@@ -113,6 +167,20 @@ class Rooms(unittest.TestCase):
                     if not printed.startswith((b"refused 8", b"refused 9", b"refused 13")):
                         self.assertEqual(in_library(text, desk).printed, printed)
 
+    def test_maker(self) -> None:
+        """In either room: a recording's own names come first, then the maker's; without them the sheet is the same but for these lines."""
+        maker = b".i 3\n.o 3\n.ilb PUMP VALVE HEAT\n.ob PUMP VALVE HEAT\n.e\n"
+        lines = b".ilb PUMP VALVE HEAT\n.ob PUMP VALVE HEAT\n"
+        with Desk() as desk:
+            for exact, of_maker in ((False, maker), (True, maker), (False, maker.decode())):
+                named = sheet(helping.PANEL, maker=of_maker, exact=exact, desk=desk)
+                self.assertEqual((named.in_library, named.printed), (False, helping.PANEL_SHEET.replace(b".o 3\n", b".o 3\n" + lines)))
+            long = sheet(helping.PANEL + b"#" * 30000, maker=maker, desk=desk)
+            self.assertEqual((long.in_library, long.printed), (True, named.printed))
+            self.assertEqual(sheet(helping.recording("names"), maker=maker, desk=desk).printed, helping.stored("names"))
+            self.assertEqual(sheet(helping.PANEL, maker=b"junk", desk=desk).printed, helping.PANEL_SHEET)
+            self.assertEqual(sheet(helping.recording("refused-7"), maker=maker, desk=desk).printed, helping.stored("refused-7"))
+
     def test_larger_room(self) -> None:
         with Desk() as desk:
             outcome = sheet(helping.recording("cell-cycle-shuffled"), desk=desk)
@@ -125,9 +193,12 @@ class Rooms(unittest.TestCase):
             chance = random.Random(7)
             states = chance.sample(range(1024), 40)
             rows = b"".join(b"%s %s\n" % tuple(f"{x:010b}".encode() for x in (state, chance.randrange(1024))) for state in states)
-            large = sheet(b".i 10\n.o 10\n" + rows + b".e\n", desk=desk)
+            ten = b" ".join(b"RELAY_%d_OF_TEN__" % k for k in range(10))
+            names = b".ilb " + ten + b"\n.ob " + ten + b"\n"
+            large = sheet(b".i 10\n.o 10\n" + names + rows + b".e\n", desk=desk)
             self.assertTrue(large.in_library and large.done)
             self.assertGreater(len(large.printed), 65536)
+            self.assertEqual(large.printed.split(names), [b".i 10\n.o 10\n", sheet(b".i 10\n.o 10\n" + rows + b".e\n", desk=desk).printed[12:]])
             beyond = sheet(b"#" * 3_000_000, desk=desk)
             self.assertEqual(beyond.printed, b"refused 13 at 0\n")
             self.assertIn("more than 2,097,152 bytes", why_refused(b"#" * 3_000_000, beyond, desk).why)

@@ -4,7 +4,7 @@ use std::io::{self, Read, Write};
 
 use crate::calls::{self, Answer, Lent};
 use crate::session::{self, Session};
-use crate::text;
+use crate::text::{self, Part};
 
 /// What a field of a request may hold.
 #[derive(Clone, Copy, Debug, PartialEq, Eq)]
@@ -64,6 +64,7 @@ pub const SESSION_TAKE: u64 = 7;
 pub const READ: u64 = 8;
 pub const WRITE: u64 = 9;
 pub const RUN: u64 = 10;
+pub const LOOKUP: u64 = 11;
 
 const W: Width = Width::Word;
 const C: Width = Width::Count;
@@ -72,7 +73,7 @@ const WORDS_MUT: Slice = Slice { width: Width::Word, mutable: true };
 const BYTES: Slice = Slice { width: Width::Byte, mutable: false };
 const BYTES_MUT: Slice = Slice { width: Width::Byte, mutable: true };
 
-pub static SHAPES: [Shape; 10] = [
+pub static SHAPES: [Shape; 11] = [
     Shape { call: FRESH, name: "fresh", numbers: &[W], slices: &[WORDS_MUT], answers: 6 },
     Shape {
         call: TAKE,
@@ -111,7 +112,13 @@ pub static SHAPES: [Shape; 10] = [
         answers: 11,
     },
     Shape { call: READ, name: "read", numbers: &[], slices: &[BYTES, WORDS_MUT], answers: 4 },
-    Shape { call: WRITE, name: "write", numbers: &[W, C], slices: &[WORDS, BYTES_MUT], answers: 7 },
+    Shape {
+        call: WRITE,
+        name: "write",
+        numbers: &[W, C],
+        slices: &[WORDS, BYTES, BYTES, BYTES_MUT],
+        answers: 7,
+    },
     Shape {
         call: RUN,
         name: "run",
@@ -119,6 +126,7 @@ pub static SHAPES: [Shape; 10] = [
         slices: &[BYTES, WORDS_MUT, WORDS_MUT, WORDS_MUT, BYTES_MUT],
         answers: 1,
     },
+    Shape { call: LOOKUP, name: "lookup", numbers: &[C], slices: &[BYTES, BYTES], answers: 3 },
 ];
 
 /// The shape of a call number.
@@ -242,6 +250,7 @@ impl Request {
             READ => self.answer_read(),
             WRITE => self.answer_write(),
             RUN => self.answer_run(),
+            LOOKUP => self.answer_lookup(),
             _ => unreachable!("a shape has one of these calls"),
         }
     }
@@ -255,7 +264,7 @@ impl Request {
         self.slices[place].iter().map(|word| *word as u32).collect()
     }
 
-    fn lent_bytes(&self, place: usize) -> Vec<u8> {
+    pub fn lent_bytes(&self, place: usize) -> Vec<u8> {
         self.slices[place].iter().map(|byte| *byte as u8).collect()
     }
 
@@ -341,8 +350,10 @@ impl Request {
     }
 
     fn answer_write(&self) -> Vec<u64> {
-        let (sheet, mut out) = (self.lent_words(0), self.lent_bytes(1));
-        let (answer, length) = text::write(self.word(0), self.numbers[1], &sheet, &mut out);
+        let (n, count, sheet) = (self.word(0), self.numbers[1], self.lent_words(0));
+        let (panel, maker) = (self.lent_bytes(1), self.lent_bytes(2));
+        let mut out = self.lent_bytes(3);
+        let (answer, length) = text::write(n, count, &sheet, &panel, &maker, &mut out);
         [numbers_of(answer), vec![length], widened(&out)].concat()
     }
 
@@ -352,6 +363,12 @@ impl Request {
         let length = text::run(&self.lent_bytes(0), &mut list, &mut book, &mut sheet, &mut out);
         let words = [widened(&list), widened(&book), widened(&sheet)].concat();
         [vec![length], words, widened(&out)].concat()
+    }
+
+    fn answer_lookup(&self) -> Vec<u64> {
+        let (panel, maker) = (self.lent_bytes(0), self.lent_bytes(1));
+        let Part { of_maker, start, length } = text::lookup(self.numbers[0], &panel, &maker);
+        vec![u64::from(of_maker), start as u64, length as u64]
     }
 }
 

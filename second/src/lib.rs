@@ -1,16 +1,19 @@
-//! The second program: document 01 by definition and brute force.
+//! The second program: document 01, with Ask 1 of document 02, by definition and brute force.
 //!
 //! * `panel`: states, transitions, bodies, rules and their words
 //! * `sheets`: which bodies are consistent, permitted, smallest; good books and sheets
 //! * `calls`: fresh, take, learn, join, apply on lent slices
 //! * `session`: a bench session, by value
-//! * `text`: recording text in, sheet text out, and the program itself
+//! * `layout`: which recording texts are accepted, where their names stand, and the faulty line of
+//!   the others
+//! * `text`: recording text in, names looked up, sheet text out, and the program itself
 //! * `desk`: requests and answers as 64-bit words (docs/DESK.md)
-//! * `cases`: seeded random requests, `tally`: how many of each call and code
+//! * `cases`: seeded random requests, `tally`: how many of each call and outcome
 
 pub mod calls;
 pub mod cases;
 pub mod desk;
+pub mod layout;
 pub mod panel;
 pub mod session;
 pub mod sheets;

@@ -1,19 +1,27 @@
-//! How many cases of each call and code a stream of requests and answers holds.
+//! How many cases of each call and outcome a stream of requests and answers holds.
 
 use std::collections::BTreeMap;
 use std::io::{self, Read};
 
+use crate::calls::DONE;
 use crate::desk::{
-    next_request, next_word, shape_of, Next, Request, APPLY, FRESH, JOIN, LEARN, READ, RUN,
+    next_request, next_word, shape_of, Next, Request, APPLY, FRESH, JOIN, LEARN, LOOKUP, READ, RUN,
     SESSION_START, SESSION_TAKE, SHAPES, TAKE, WRITE,
 };
+use crate::text::{found, NoName};
 
 /// How a call ended.
 #[derive(Clone, Copy, Debug, PartialEq, Eq, PartialOrd, Ord)]
 pub enum Outcome {
     Code(u64),
+    /// Write and run: done, and the sheet has name lines; done without them is code 0.
+    Named,
     /// Run alone: the refusal line is longer than `out`, the length is 0.
     NoRoomForLine,
+    /// Lookup alone: a part of the panel's text, of the maker's, or the empty part, and why.
+    PanelName,
+    MakerName,
+    Empty(NoName),
 }
 
 /// The codes that can occur in a call.
@@ -33,7 +41,26 @@ fn codes_of(call: u64) -> &'static [u64] {
         READ => &[0, 8, 11],
         WRITE => &[0, 2, 3, 5, 12],
         RUN => &[0, 7, 8, 9, 11, 12, 13],
+        LOOKUP => &[],
         _ => unreachable!("a shape has one of these calls"),
+    }
+}
+
+/// The other outcomes that can occur in a call.
+fn others_of(call: u64) -> &'static [Outcome] {
+    match call {
+        WRITE => &[Outcome::Named],
+        RUN => &[Outcome::Named, Outcome::NoRoomForLine],
+        LOOKUP => &[
+            Outcome::PanelName,
+            Outcome::MakerName,
+            Outcome::Empty(NoName::BadPanel),
+            Outcome::Empty(NoName::AbovePanel),
+            Outcome::Empty(NoName::BadMaker),
+            Outcome::Empty(NoName::Neither),
+            Outcome::Empty(NoName::AboveMaker),
+        ],
+        _ => &[],
     }
 }
 
@@ -42,32 +69,53 @@ pub fn targets() -> Vec<(u64, Outcome)> {
     let mut targets = Vec::new();
     for shape in &SHAPES {
         targets.extend(codes_of(shape.call).iter().map(|code| (shape.call, Outcome::Code(*code))));
-        if shape.call == RUN {
-            targets.push((RUN, Outcome::NoRoomForLine));
-        }
+        targets.extend(others_of(shape.call).iter().map(|other| (shape.call, *other)));
     }
     targets
 }
 
-/// How the call ended, by its answer; none if run printed neither a sheet nor a refusal.
+/// How the call ended, by its answer; none if the answer is one that no call gives.
 pub fn outcome_of(request: &Request, answer: &[u64]) -> Option<Outcome> {
-    if request.shape.call != RUN {
-        return answer.first().map(|code| Outcome::Code(*code));
+    match (request.shape.call, answer) {
+        (RUN, [length, ..]) => printed_outcome(&printed(request, answer, *length)?),
+        (WRITE, [DONE, _, _, _, _, _, length, ..]) => {
+            printed_outcome(&printed(request, answer, *length)?)
+        }
+        (LOOKUP, _) => looked_up(request, answer),
+        _ => answer.first().map(|code| Outcome::Code(*code)),
     }
-    let length = usize::try_from(answer[0]).ok()?;
-    let out = &answer[answer.len() - request.slices[4].len()..];
-    let printed: Vec<u8> = out.get(..length)?.iter().map(|byte| *byte as u8).collect();
-    printed_outcome(&printed)
 }
 
-/// How the program ended, by what it printed.
+/// So many bytes of the last slice of a request, as they are in its answer.
+fn printed(request: &Request, answer: &[u64], length: u64) -> Option<Vec<u8>> {
+    let room = request.slices.last()?.len();
+    let out = answer.get(answer.len().checked_sub(room)?..)?;
+    let text = out.get(..usize::try_from(length).ok()?)?;
+    Some(text.iter().map(|byte| *byte as u8).collect())
+}
+
+/// Whose name the answer is; if it is the empty part, the request says why.
+fn looked_up(request: &Request, answer: &[u64]) -> Option<Outcome> {
+    match answer {
+        [0, 0, 0] => {
+            let (panel, maker) = (request.lent_bytes(0), request.lent_bytes(1));
+            found(request.numbers[0], &panel, &maker).err().map(Outcome::Empty)
+        }
+        [0, _, length] if *length > 0 => Some(Outcome::PanelName),
+        [1, _, length] if *length > 0 => Some(Outcome::MakerName),
+        _ => None,
+    }
+}
+
+/// How the program ended, or a write that is done, by what it printed.
 pub fn printed_outcome(printed: &[u8]) -> Option<Outcome> {
     if printed.is_empty() {
         return Some(Outcome::NoRoomForLine);
     }
     let text = std::str::from_utf8(printed).ok()?;
     if text.starts_with(".i ") {
-        return Some(Outcome::Code(0));
+        let named = text.lines().any(|line| line.starts_with(".ilb "));
+        return Some(if named { Outcome::Named } else { Outcome::Code(DONE) });
     }
     let code = text.strip_prefix("refused ")?.split(' ').next()?;
     code.parse().ok().map(Outcome::Code)
@@ -116,7 +164,8 @@ impl Tally {
         match outcome_of(request, answer) {
             Some(outcome) => *self.counts.entry((request.shape.call, outcome)).or_default() += 1,
             None => {
-                self.faults.push(format!("run {} printed neither sheet nor refusal", self.cases))
+                let (call, number) = (name(request.shape.call), self.cases);
+                self.faults.push(format!("answer {number} is none that {call} gives"));
             }
         }
     }
@@ -143,7 +192,7 @@ impl Tally {
         failures
     }
 
-    /// One line for each call: how many cases of each code.
+    /// One line for each call: how many cases of each outcome.
     pub fn table(&self) -> String {
         let mut table = String::new();
         for shape in &SHAPES {
@@ -171,6 +220,20 @@ fn name(call: u64) -> &'static str {
 fn label(outcome: Outcome) -> String {
     match outcome {
         Outcome::Code(code) => format!("code {code}"),
+        Outcome::Named => "code 0 with names".to_string(),
         Outcome::NoRoomForLine => "no room for the line".to_string(),
+        Outcome::PanelName => "panel's name".to_string(),
+        Outcome::MakerName => "maker's name".to_string(),
+        Outcome::Empty(why) => format!("empty ({})", reason(why)),
+    }
+}
+
+fn reason(why: NoName) -> &'static str {
+    match why {
+        NoName::BadPanel => "panel's text bad",
+        NoName::AbovePanel => "no column of the panel's text",
+        NoName::BadMaker => "maker's text bad",
+        NoName::Neither => "neither has names",
+        NoName::AboveMaker => "no column of the maker's text",
     }
 }

@@ -1,7 +1,7 @@
 //! Requests and answers as bytes, the seeded cases, and the tally.
 
 use second::cases::{examples, malformed, requests, requests_but};
-use second::desk::{bytes_of, serve, MOST_WORDS, RUN};
+use second::desk::{bytes_of, serve, Request, LOOKUP, MOST_WORDS, RUN};
 use second::tally::{printed_outcome, targets, Outcome, Tally};
 
 /// The answers to a stream, and whether it ended between two requests.
@@ -44,7 +44,7 @@ fn one_request_of_each_call() {
     assert_eq!(answered(&[8, 0, 1, 7]), [11, 1, 0, 0, 0]);
     // write, an empty sheet of one relay, in 30 bytes
     let text: Vec<u64> = b".i 1\n.o 1\n.type f\n.p 0\n.e\n".iter().map(|b| u64::from(*b)).collect();
-    let mut request = vec![9, 1, 0, 0, 27];
+    let mut request = vec![9, 1, 0, 0, 0, 0, 27];
     request.extend([63; 27]);
     let expected = [vec![0, 0, 0, 0, 0, 0, 26], text, vec![63]].concat();
     assert_eq!(answered(&request), expected);
@@ -53,6 +53,35 @@ fn one_request_of_each_call() {
     let mut request = vec![10, 0, 1, 7, 1, 8, 1, 9, 16];
     request.extend([63; 16]);
     assert_eq!(answered(&request), [vec![16, 0, 8, 9], line].concat());
+    // lookup, of empty texts
+    assert_eq!(answered(&[11, 0, 0, 0]), [0, 0, 0]);
+}
+
+/// The words of a lent text: its length, then its bytes.
+fn lent(text: &str) -> Vec<u64> {
+    [text.len() as u64].into_iter().chain(text.bytes().map(u64::from)).collect()
+}
+
+const NAMED: &str = ".i 1\n.o 1\n.ilb A\n.ob A\n.e\n";
+const PLAIN: &str = ".i 1\n.o 1\n.e\n";
+
+#[test]
+fn requests_with_names() {
+    // write, an empty sheet of one relay, in 40 bytes
+    let sheet = lent(".i 1\n.o 1\n.ilb A\n.ob A\n.type f\n.p 0\n.e\n");
+    let done = [&[0; 6], &sheet[..], &[63]].concat();
+    let room = [&[40], &[63; 40][..]].concat();
+    assert_eq!(answered(&[vec![9, 1, 0, 0], lent(NAMED), vec![0], room.clone()].concat()), done);
+    assert_eq!(answered(&[vec![9, 1, 0, 0], lent(PLAIN), lent(NAMED), room].concat()), done);
+    // lookup, in the panel's text, of no column of it, and in the maker's
+    let lookup = |column: u64, panel: &str, maker: &str| {
+        answered(&[vec![11, column], lent(panel), lent(maker)].concat())
+    };
+    assert_eq!(lookup(0, NAMED, ""), [0, 15, 1]);
+    assert_eq!(lookup(1, NAMED, ""), [0, 0, 0]);
+    assert_eq!(lookup(u64::MAX, NAMED, ""), [0, 0, 0]);
+    assert_eq!(lookup(0, PLAIN, NAMED), [1, 15, 1]);
+    assert_eq!(lookup(0, "", NAMED), [0, 0, 0]);
 }
 
 #[test]
@@ -122,6 +151,25 @@ fn a_code_never_reached_or_never_possible_fails() {
 }
 
 #[test]
+fn whose_name_was_looked_up() {
+    let lookups: Vec<Request> =
+        examples().into_iter().filter(|request| request.shape.call == LOOKUP).collect();
+    let mut tally = Tally::default();
+    for request in &lookups {
+        tally.count(request, &request.answer());
+    }
+    assert!(!tally.failures().iter().any(|failure| failure.starts_with("lookup")));
+    // No third text, no place within the empty part, and no name left out.
+    let named = lookups.iter().find(|request| request.answer() == [0, 15, 4]).unwrap();
+    for answer in [[2, 15, 4], [0, 15, 0], [0, 0, 0]] {
+        let mut tally = Tally::default();
+        tally.count(named, &answer);
+        let failure = "answer 1 is none that lookup gives".to_string();
+        assert!(tally.failures().contains(&failure), "{answer:?}");
+    }
+}
+
+#[test]
 fn a_skipped_call_is_neither_asked_nor_expected() {
     let mut tally = Tally::default();
     for request in requests_but(200, 0, Some(RUN)) {
@@ -135,6 +183,7 @@ fn a_skipped_call_is_neither_asked_nor_expected() {
 #[test]
 fn what_the_program_printed() {
     assert_eq!(printed_outcome(b".i 1\n"), Some(Outcome::Code(0)));
+    assert_eq!(printed_outcome(NAMED.as_bytes()), Some(Outcome::Named));
     assert_eq!(printed_outcome(b"refused 13 at 0\n"), Some(Outcome::Code(13)));
     assert_eq!(printed_outcome(b""), Some(Outcome::NoRoomForLine));
     assert_eq!(printed_outcome(b"x"), None);

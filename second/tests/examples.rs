@@ -147,7 +147,7 @@ fn k9_the_recording() {
     assert_eq!((answer.code, book.len()), (0, 8));
     assert_eq!(sheet, [2048, 1053696, 2097153]);
     let mut out = [b'?'; 60];
-    assert_eq!(write(3, 3, &sheet, &mut out), (done(0, 0, 0, 0), SHEET.len() as u64));
+    assert_eq!(write(3, 3, &sheet, b"", b"", &mut out), (done(0, 0, 0, 0), SHEET.len() as u64));
     assert_eq!(&out[..SHEET.len()], SHEET.as_bytes());
     assert!(out[SHEET.len()..].iter().all(|byte| *byte == b'?'));
 }
@@ -178,7 +178,7 @@ fn k11_a_join() {
 fn k12_no_good_sheet() {
     let mut sheet = [0, 1024];
     assert_eq!(apply(1, 0, 2, &sheet), (refused(5, 0), 0));
-    assert_eq!(write(1, 2, &sheet, &mut [0; 99]), (refused(5, 0), 0));
+    assert_eq!(write(1, 2, &sheet, b"", b"", &mut [0; 99]), (refused(5, 0), 0));
     let answer = take(1, 0, 0, 0, 2, &mut [0; 3], &mut sheet);
     assert_eq!(answer, Answer { code: 5, sheet_count: 2, ..Answer::default() });
 }
@@ -193,7 +193,7 @@ fn sizes() {
         let none = Lent { book_count: 0, sheet_count: 0, book: &[], sheet: &[] };
         assert_eq!(join(n, none, none, &mut book, &mut sheet).code, code);
         assert_eq!(apply(n, 0, 0, &[]).0.code, code);
-        assert_eq!(write(n, 0, &[], &mut [0; 99]).0.code, code);
+        assert_eq!(write(n, 0, &[], b"", b"", &mut [0; 99]).0.code, code);
         assert_eq!(take(n, 0, 0, 0, 0, &mut book, &mut sheet).code, code);
     }
 }

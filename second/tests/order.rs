@@ -193,7 +193,7 @@ fn apply_judges_in_order() {
 fn write_judges_in_order() {
     let check = |code, n, count, sheet: &[u32], room: usize| {
         let mut out = vec![b'?'; room];
-        assert_eq!(write(n, count, sheet, &mut out), (refused(code, 0), 0));
+        assert_eq!(write(n, count, sheet, b"", b"", &mut out), (refused(code, 0), 0));
         assert!(out.iter().all(|byte| *byte == b'?'));
     };
     check(2, 0, 9, &[9], 0);
@@ -205,7 +205,7 @@ fn write_judges_in_order() {
     check(12, 2, 1, &[2], text.len() - 1);
     check(12, 2, 1, &[2], 0);
     let mut out = vec![b'?'; text.len()];
-    assert_eq!(write(2, 1, &[2], &mut out), (refused(0, 0), text.len() as u64));
+    assert_eq!(write(2, 1, &[2], b"", b"", &mut out), (refused(0, 0), text.len() as u64));
     assert_eq!(out, text.as_bytes());
 }
 

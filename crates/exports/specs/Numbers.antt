@@ -1,12 +1,14 @@
 -- What a caller in C is handed: every array that a call changes, the numbers of its answer among them, and the number that it returns.
 use mathlib.Core.Path.{_≡_}
 use mathlib.Core.List.{List, [], _∷_}
+use mathlib.Core.Bool.{cond}
 use Prim.Native.Nat.{ℕ}
-use lib.ListN.{getD}
+use lib.ListN.{length, getD}
 use Rattle.answers.specs.declared.Answer.{Answer}
+use Rattle.naming.specs.declared.Spot.{Spot}
 use Rattle.recording.specs.declared.ReadAnswer.{ReadAnswer}
 use Rattle.sessions.specs.declared.Session.{Session}
-use Rattle.public.specs.PublicCalls.{Call, fresh, take, learn, join, apply, session-start, session-take, session-take-lent, read, write-sheet, run, Result, Contract}
+use Rattle.public.specs.PublicCalls.{Call, fresh, take, learn, join, apply, session-start, session-take, session-take-lent, read, find-name, lookup, write-sheet, run, Result, Contract}
 
 -- ---- numbers in a row
 
@@ -21,6 +23,10 @@ numbers a = numbersWith a []
 -- reading's four: code, place, n, count
 abbrev pub readNumbers : ReadAnswer → List ℕ
 readNumbers a = a .code ∷ a .place ∷ a .n ∷ a .count ∷ []
+
+-- a name's three: its text, 0 the panel's and 1 the maker's; where it begins there; how long it is
+abbrev pub spotNumbers : Spot → List ℕ
+spotNumbers s = cond (s .maker) 1 0 ∷ s .start ∷ s .length ∷ []
 
 -- the five numbers of a session: n, both counts, struck, added
 abbrev pub sessionNumbers : Session → List ℕ
@@ -43,7 +49,10 @@ handed (session-start n sheet) r = (r .1 ∷ sessionNumbers (r .0 .session) ∷ 
 handed (session-take s book sheet i j) r = (sessionNumbers (r .0 .session) ∷ r .1 ∷ r .2 ∷ [], numbers (r .0 .answer), r .0 .answer .code)
 handed (session-take-lent s book sheet i j) r = (sessionNumbers (r .1) ∷ r .2 ∷ r .3 ∷ [], numbers (r .0), r .0 .code)
 handed (read text list) r = (r .1 ∷ [], readNumbers (r .0), r .0 .code)
-handed (write-sheet n sheet count out) r = (r .1 ∷ [], numbersWith (r .0 .answer) (r .0 .length ∷ []), r .0 .answer .code)
+-- a name is handed over by its numbers, with the length returned; a part of a text itself no function here hands over
+handed (find-name panel maker column) r = ([], spotNumbers r, r .length)
+handed (lookup panel maker column) r = (r .0 ∷ [], r .1 ∷ r .2 ∷ [], length (r .0))
+handed (write-sheet n sheet count panel maker out) r = (r .1 ∷ [], numbersWith (r .0 .answer) (r .0 .length ∷ []), r .0 .answer .code)
 -- the whole program has no answer, and returns a length
 handed (run input list book sheet output) r = (r .1 ∷ r .2 ∷ r .3 ∷ r .4 ∷ [], [], r .0)
 

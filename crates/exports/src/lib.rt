@@ -1,13 +1,15 @@
 // The calls under C's names: each makes the public call, stores the numbers of its answer, and returns the code.
 use answers::Answer;
+use naming::Spot;
 use recording::ReadAnswer;
 use sessions::Session;
 ghost use mathlib.Core.Path.{_≡_};
 ghost use mathlib.Core.List.{_∷_, []};
+ghost use mathlib.Core.Bool.{cond};
 ghost use lib.ListN.{getD};
 ghost use Rattle.joining.specs.Joining.{piece};
-ghost use Rattle.public.specs.PublicCalls.{fresh, take, learn, join, apply, session-start, session-take-lent, read, write-sheet, run};
-ghost use Rattle.exports.specs.Numbers.{numbers, numbersWith, readNumbers, sessionNumbers, sessionIn, Hands};
+ghost use Rattle.public.specs.PublicCalls.{fresh, take, learn, join, apply, session-start, session-take-lent, read, find-name, write-sheet, run};
+ghost use Rattle.exports.specs.Numbers.{numbers, numbersWith, readNumbers, spotNumbers, sessionNumbers, sessionIn, Hands};
 ghost use Rattle.exports.specs.Sizes.{narrowed, sized};
 
 fn narrow(x: usize) -> u32
@@ -59,6 +61,22 @@ fn put_read(a: ReadAnswer, out: &mut [usize; 4]) -> u32
     let code = a.code;
     *out = [code as usize, a.place, a.n as usize, a.count];
     code
+}
+
+// 0 for the panel's text, 1 for the maker's.
+fn text_number(maker: bool) -> usize
+    ensures { λ r. ⌜ r ≡ cond maker 1 0 ⌝ }
+{
+    if maker { 1 } else { 0 }
+}
+
+// The three numbers of a name.
+fn put_spot(s: Spot, out: &mut [usize; 3]) -> usize
+    ensures { λ r. ⌜ (now (out .exit) ≡ spotNumbers s) × (r ≡ s .length) ⌝ }
+{
+    let length = s.length;
+    *out = [text_number(s.maker), s.start, length];
+    length
 }
 
 // The five numbers of a session, the first as given.
@@ -210,17 +228,33 @@ pub extern "C" fn ntekuzino_read(text: &[u8], list: &mut [u32], answer: &mut [us
 }
 
 #[no_mangle]
-pub extern "C" fn ntekuzino_write_sheet(
+pub extern "C" fn ntekuzino_write_sheet<'a>(
     n: u32,
     sheet: &[u32],
     sheet_count: usize,
+    panel: &'a [u8],
+    maker: &'a [u8],
     out: &mut [u8],
     answer: &mut [usize; 7],
 ) -> u32
-    ensures { λ r. ⌜ Hands (write-sheet n (now (sheet .entry)) «sheet_count» (now (out .entry))) (now (out .exit) ∷ []) (now (answer .exit)) r ⌝ }
+    ensures { λ r. ⌜ Hands (write-sheet n (now (sheet .entry)) «sheet_count» (now (panel .entry)) (now (maker .entry)) (now (out .entry))) (now (out .exit) ∷ []) (now (answer .exit)) r ⌝ }
 {
-    let a = public::write_sheet(n, sheet, sheet_count, out);
+    let a = public::write_sheet(n, sheet, sheet_count, panel, maker, out);
     put_with(a.answer, a.length, answer)
+}
+
+// Where the name of a column stands: the number of the text, the first byte there, and how many; 0, 0, 0 where there is none.
+#[no_mangle]
+pub extern "C" fn ntekuzino_lookup(
+    panel: &[u8],
+    maker: &[u8],
+    column: usize,
+    name: &mut [usize; 3],
+) -> usize
+    ensures { λ r. ⌜ Hands (find-name (now (panel .entry)) (now (maker .entry)) column) [] (now (name .exit)) r ⌝ }
+{
+    let s = public::find_name(panel, maker, column);
+    put_spot(s, name)
 }
 
 // The whole program: the length of what stands in `output`.

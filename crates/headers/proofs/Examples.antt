@@ -11,15 +11,17 @@ use Rattle.fields.specs.Texts.{body, linesOf}
 use Rattle.fields.specs.Fields.{fieldsFrom, fieldsIn}
 use Rattle.fields.specs.Values.{cubeOf, digits, numberOf}
 use Rattle.fields.proofs.JoinLaws.{lines-no-feeds}
-use Rattle.lines.specs.Lines.{keyOf, typedOf, rowLine, classOf, ofFields, lineOf}
+use Rattle.names.specs.Names.{nameByte, allName, nameOk, holds, goodNames, countFrom, namesCount, sameFields, namesIn}
+use Rattle.lines.specs.Lines.{otherKey, keyOf, typedOf, rowLine, classOf, ofFields, lineOf}
+use Rattle.lines.specs.declared.Part.{Part}
 use Rattle.lines.specs.declared.Part.the-variants.{Ins, Outs}
-use Rattle.headers.specs.Layouts.{recording, asks}
-use Rattle.headers.specs.Headers.{lacks, lacksNone, readyOf, rowFits, openOf, fitsOf, headerAllowed, endAllowed, rowAllowed, allowedAt, nextAt}
+use Rattle.headers.specs.Layouts.{recording}
+use Rattle.headers.specs.Headers.{lacks, lacksNone, readyOf, rowFits, openOf, fitsOf, headerAllowed, endAllowed, rowAllowed, named, allowedBy, allowedAt, nextAt}
 use Rattle.headers.specs.Verdicts.{finishOf, judgeLines, judgeOf}
 use Rattle.headers.specs.Accepted.{times, rowsIn, Accepted}
 use Rattle.headers.specs.Places.{Begins, endIn, FaultyLine, EndMissing, WrongCount, Place}
 use Rattle.headers.specs.declared.Header.{Header}
-use Rattle.headers.specs.declared.Header.the-variants.{Size, TypeWord, Count}
+use Rattle.headers.specs.declared.Header.the-variants.{Size, Names, TypeWord, Count}
 use Rattle.headers.specs.declared.Verdict.{Verdict}
 use Rattle.headers.specs.declared.Verdict.the-variants.{Good, Bad}
 use Rattle.headers.proofs.Passing.{allPass}
@@ -59,6 +61,30 @@ p1 = 46 ∷ 112 ∷ 32 ∷ 49 ∷ 10 ∷ []
 -- `.p 2`
 abbrev p2 : List ℕ
 p2 = 46 ∷ 112 ∷ 32 ∷ 50 ∷ 10 ∷ []
+
+-- `.ilb A`
+abbrev ilbA : List ℕ
+ilbA = 46 ∷ 105 ∷ 108 ∷ 98 ∷ 32 ∷ 65 ∷ 10 ∷ []
+
+-- `.ob A`, with a comment
+abbrev obA : List ℕ
+obA = 46 ∷ 111 ∷ 98 ∷ 32 ∷ 65 ∷ 35 ∷ 66 ∷ 10 ∷ []
+
+-- `.ob B`
+abbrev obB : List ℕ
+obB = 46 ∷ 111 ∷ 98 ∷ 32 ∷ 66 ∷ 10 ∷ []
+
+-- `.ilb A B`
+abbrev ilbAB : List ℕ
+ilbAB = 46 ∷ 105 ∷ 108 ∷ 98 ∷ 32 ∷ 65 ∷ 32 ∷ 66 ∷ 10 ∷ []
+
+-- `.ilb A A`
+abbrev ilbAA : List ℕ
+ilbAA = 46 ∷ 105 ∷ 108 ∷ 98 ∷ 32 ∷ 65 ∷ 32 ∷ 65 ∷ 10 ∷ []
+
+-- `.ilb`
+abbrev ilbNone : List ℕ
+ilbNone = 46 ∷ 105 ∷ 108 ∷ 98 ∷ 10 ∷ []
 
 -- `1 0`
 abbrev row : List ℕ
@@ -125,9 +151,32 @@ texts =
     ∷ (i1 ++ p2 ++ o1 ++ row ++ unread ++ end, Bad 5)
     ∷ []
 
+-- with names, accepted: behind the sizes, and in any order among the headers;
+-- refused: the later of two lines with other names; more names than the size before, and the size after; twice; a name twice; no name; after a
+-- row; one line alone, at the first row and at the end mark
+abbrev named-texts : List (List ℕ × Verdict)
+named-texts =
+    (i1 ++ o1 ++ ilbA ++ obA ++ row ++ end, Good 1)
+    ∷ (obA ++ fr ++ o1 ++ note ++ ilbA ++ p1 ++ i1 ++ row ++ end, Good 1)
+    ∷ (i1 ++ ilbA ++ o1 ++ obB ++ row ++ end, Bad 4)
+    ∷ (i1 ++ ilbAB ++ o1 ++ row ++ end, Bad 2)
+    ∷ (ilbAB ++ i1 ++ o1 ++ row ++ end, Bad 2)
+    ∷ (ilbAB ++ obA ++ row ++ end, Bad 2)
+    ∷ (ilbA ++ ilbA ++ row ++ end, Bad 2)
+    ∷ (ilbAA ++ end, Bad 1)
+    ∷ (i1 ++ o1 ++ ilbNone ++ end, Bad 3)
+    ∷ (i1 ++ o1 ++ row ++ ilbA ++ obA ++ end, Bad 4)
+    ∷ (i1 ++ ilbA ++ o1 ++ row ++ end, Bad 4)
+    ∷ (obA ++ i1 ++ o1 ++ end, Bad 4)
+    ∷ []
+
 pub texts-judged : Judged texts
-unfolding markOf run same body linesOf fieldsFrom fieldsIn cubeOf digits numberOf keyOf typedOf rowLine classOf ofFields lineOf lacks lacksNone readyOf rowFits openOf fitsOf headerAllowed endAllowed rowAllowed allowedAt nextAt finishOf judgeLines judgeOf
+unfolding markOf run same body linesOf fieldsFrom fieldsIn cubeOf digits numberOf otherKey keyOf typedOf rowLine classOf ofFields lineOf nameByte allName nameOk holds goodNames countFrom namesCount sameFields namesIn lacks lacksNone readyOf rowFits openOf fitsOf headerAllowed endAllowed rowAllowed named allowedBy allowedAt nextAt finishOf judgeLines judgeOf
 texts-judged = (refl, (refl, (refl, (refl, (refl, (refl, (refl, (refl, (refl, (refl, (refl, (refl, (refl, (refl, (refl, (refl, (refl, (refl, (refl, (refl, (refl, (refl, tt))))))))))))))))))))))
+
+pub named-judged : Judged named-texts
+unfolding markOf run same body linesOf fieldsFrom fieldsIn cubeOf digits numberOf otherKey keyOf typedOf rowLine classOf ofFields lineOf nameByte allName nameOk holds goodNames countFrom namesCount sameFields namesIn lacks lacksNone readyOf rowFits openOf fitsOf headerAllowed endAllowed rowAllowed named allowedBy allowedAt nextAt finishOf judgeLines judgeOf
+named-judged = (refl, (refl, (refl, (refl, (refl, (refl, (refl, (refl, (refl, (refl, (refl, (refl, tt))))))))))))
 
 -- what a verdict means: the text is a recording for n relays, or k is the place of its fault
 abbrev Means : List ℕ → Verdict → Type 0
@@ -146,58 +195,120 @@ meant : (es : List (List ℕ × Verdict)) → Judged es → Meant es
 meant [] h = tt
 meant (e ∷ es) h = (means (e .0) (e .1) (h .0), meant es (h .1))
 
-pub texts-meant : Meant texts
-texts-meant = meant texts texts-judged
+pub texts-meant : Meant texts × Meant named-texts
+texts-meant = (meant texts texts-judged, meant named-texts named-judged)
 
 -- ---- an accepted text by hand
 
-abbrev whole : List ℕ
+abbrev pub whole : List ℕ
 whole = i1 ++ o1 ++ row ++ end
 
 abbrev sizes : List (List ℕ)
 sizes = (46 ∷ 105 ∷ 32 ∷ 49 ∷ []) ∷ (46 ∷ 111 ∷ 32 ∷ 49 ∷ []) ∷ []
 
 sizes-once : (h : Header) → times h sizes ≤ 1
-unfolding times markOf run same body fieldsFrom fieldsIn digits numberOf keyOf typedOf classOf ofFields lineOf
+unfolding times markOf run same body fieldsFrom fieldsIn digits numberOf otherKey keyOf typedOf classOf ofFields lineOf
 sizes-once (Size Ins) = omega arith
 sizes-once (Size Outs) = omega arith
+sizes-once (Names Ins) = omega arith
+sizes-once (Names Outs) = omega arith
 sizes-once TypeWord = omega arith
 sizes-once Count = omega arith
 
-sizes-asked : (h : Header) → asks recording h ≡ true → times h sizes ≡ 1
-unfolding times markOf run same body fieldsFrom fieldsIn digits numberOf keyOf typedOf classOf ofFields lineOf
-sizes-asked (Size Ins) e = refl
-sizes-asked (Size Outs) e = refl
-sizes-asked TypeWord e = absurd (false≢true e)
-sizes-asked Count e = absurd (false≢true e)
+sizes-both : (p : Part) → times (Size p) sizes ≡ 1
+unfolding times markOf run same body fieldsFrom fieldsIn digits numberOf otherKey keyOf typedOf classOf ofFields lineOf
+sizes-both Ins = refl
+sizes-both Outs = refl
+
+no-names : times (Names Ins) sizes ≡ times (Names Outs) sizes
+unfolding times markOf run same body fieldsFrom fieldsIn digits numberOf otherKey keyOf typedOf classOf ofFields lineOf
+no-names = refl
 
 pub whole-accepted : Accepted recording 1 whole
-unfolding markOf run same body linesOf fieldsFrom fieldsIn cubeOf digits numberOf keyOf typedOf rowLine classOf ofFields lineOf
+unfolding markOf run same body linesOf fieldsFrom fieldsIn cubeOf digits numberOf otherKey keyOf typedOf rowLine classOf ofFields lineOf
 whole-accepted =
     record {
       top = sizes;
       middle = (49 ∷ 32 ∷ 48 ∷ []) ∷ [];
       mark = 46 ∷ 101 ∷ [];
       rest = [];
+      names = [];
       lines = refl;
       headers = (refl, (refl, tt));
       once = sizes-once;
-      asked = sizes-asked;
+      sized = sizes-both;
+      typed = λ e. absurd (false≢true e);
+      both = no-names;
       rows = (inr (record { on = 1; off = 0; free = 0; next = 0; unread = 0; width = 1 }, refl, record { width = refl; inputs = λ e. absurd (false≢true (sym e)); outputs = λ e. refl; single = λ e. absurd (false≢true e) }), tt);
       ends = refl;
       empty = tt;
     }
 
+-- ---- the same with names
+
+abbrev pub named-whole : List ℕ
+named-whole = i1 ++ o1 ++ ilbA ++ obA ++ row ++ end
+
+abbrev headers : List (List ℕ)
+headers = (46 ∷ 105 ∷ 32 ∷ 49 ∷ []) ∷ (46 ∷ 111 ∷ 32 ∷ 49 ∷ []) ∷ (46 ∷ 105 ∷ 108 ∷ 98 ∷ 32 ∷ 65 ∷ []) ∷ (46 ∷ 111 ∷ 98 ∷ 32 ∷ 65 ∷ 35 ∷ 66 ∷ []) ∷ []
+
+headers-once : (h : Header) → times h headers ≤ 1
+unfolding times markOf run same body fieldsFrom fieldsIn digits numberOf otherKey keyOf typedOf classOf ofFields lineOf nameByte allName nameOk holds goodNames countFrom namesCount
+headers-once (Size Ins) = omega arith
+headers-once (Size Outs) = omega arith
+headers-once (Names Ins) = omega arith
+headers-once (Names Outs) = omega arith
+headers-once TypeWord = omega arith
+headers-once Count = omega arith
+
+headers-sized : (p : Part) → times (Size p) headers ≡ 1
+unfolding times markOf run same body fieldsFrom fieldsIn digits numberOf otherKey keyOf typedOf classOf ofFields lineOf nameByte allName nameOk holds goodNames countFrom namesCount
+headers-sized Ins = refl
+headers-sized Outs = refl
+
+headers-both : times (Names Ins) headers ≡ times (Names Outs) headers
+unfolding times markOf run same body fieldsFrom fieldsIn digits numberOf otherKey keyOf typedOf classOf ofFields lineOf nameByte allName nameOk holds goodNames countFrom namesCount
+headers-both = refl
+
+pub named-accepted : Accepted recording 1 named-whole
+unfolding markOf run same body linesOf fieldsFrom fieldsIn cubeOf digits numberOf otherKey keyOf typedOf rowLine classOf ofFields lineOf nameByte allName nameOk holds goodNames countFrom namesCount namesIn
+named-accepted =
+    record {
+      top = headers;
+      middle = (49 ∷ 32 ∷ 48 ∷ []) ∷ [];
+      mark = 46 ∷ 101 ∷ [];
+      rest = [];
+      names = (65 ∷ []) ∷ [];
+      lines = refl;
+      headers = (refl, (refl, ((refl, refl), ((refl, refl), tt))));
+      once = headers-once;
+      sized = headers-sized;
+      typed = λ e. absurd (false≢true e);
+      both = headers-both;
+      rows = (inr (record { on = 1; off = 0; free = 0; next = 0; unread = 0; width = 1 }, refl, record { width = refl; inputs = λ e. absurd (false≢true (sym e)); outputs = λ e. refl; single = λ e. absurd (false≢true e) }), tt);
+      ends = refl;
+      empty = tt;
+    }
+
+-- the one has name lines, the other has none
+pub named-stands : times (Names Ins) (named-accepted .top) ≡ 1
+unfolding named-accepted times markOf run same body fieldsFrom fieldsIn digits numberOf otherKey keyOf typedOf classOf ofFields lineOf nameByte allName nameOk holds goodNames countFrom namesCount
+named-stands = refl
+
+pub none-stands : times (Names Ins) (whole-accepted .top) ≡ 0
+unfolding whole-accepted times markOf run same body fieldsFrom fieldsIn digits numberOf otherKey keyOf typedOf classOf ofFields lineOf
+none-stands = refl
+
 -- ---- one fault of each kind
 
 -- `.i 1` and `.o 1` begin an accepted text
 pub sizes-begin : Begins recording (linesOf (i1 ++ o1))
-unfolding markOf run same body linesOf fieldsFrom fieldsIn cubeOf digits numberOf keyOf typedOf rowLine classOf ofFields lineOf lacks lacksNone readyOf rowFits openOf fitsOf headerAllowed endAllowed rowAllowed allowedAt nextAt allPass
+unfolding markOf run same body linesOf fieldsFrom fieldsIn cubeOf digits numberOf otherKey keyOf typedOf rowLine classOf ofFields lineOf nameByte allName nameOk holds goodNames countFrom namesCount sameFields namesIn lacks lacksNone readyOf rowFits openOf fitsOf headerAllowed endAllowed rowAllowed named allowedBy allowedAt nextAt allPass
 sizes-begin = passes-begins recording (linesOf (i1 ++ o1)) (lines-no-feeds (i1 ++ o1)) refl
 
 -- a header after a row
 pub header-faulty : FaultyLine recording (i1 ++ o1 ++ row ++ fr ++ end) 4
-unfolding markOf run same body linesOf fieldsFrom fieldsIn cubeOf digits numberOf keyOf typedOf rowLine classOf ofFields lineOf lacks lacksNone readyOf rowFits openOf fitsOf headerAllowed endAllowed rowAllowed allowedAt nextAt allPass
+unfolding markOf run same body linesOf fieldsFrom fieldsIn cubeOf digits numberOf otherKey keyOf typedOf rowLine classOf ofFields lineOf nameByte allName nameOk holds goodNames countFrom namesCount sameFields namesIn lacks lacksNone readyOf rowFits openOf fitsOf headerAllowed endAllowed rowAllowed named allowedBy allowedAt nextAt allPass
 header-faulty =
     record {
       before = linesOf (i1 ++ o1 ++ row);
@@ -210,12 +321,12 @@ header-faulty =
     }
 
 pub end-missing : EndMissing recording (i1 ++ o1 ++ row) 4
-unfolding markOf run same body linesOf fieldsFrom fieldsIn cubeOf digits numberOf keyOf typedOf rowLine classOf ofFields lineOf lacks lacksNone readyOf rowFits openOf fitsOf headerAllowed endAllowed rowAllowed allowedAt nextAt allPass endIn
+unfolding markOf run same body linesOf fieldsFrom fieldsIn cubeOf digits numberOf otherKey keyOf typedOf rowLine classOf ofFields lineOf nameByte allName nameOk holds goodNames countFrom namesCount sameFields namesIn lacks lacksNone readyOf rowFits openOf fitsOf headerAllowed endAllowed rowAllowed named allowedBy allowedAt nextAt allPass endIn
 end-missing =
     record { begins = passes-begins recording (linesOf (i1 ++ o1 ++ row)) (lines-no-feeds (i1 ++ o1 ++ row)) refl; endless = refl; number = refl }
 
 pub count-wrong : WrongCount recording (i1 ++ p2 ++ o1 ++ row ++ end) 2
-unfolding markOf run same body linesOf fieldsFrom fieldsIn cubeOf digits numberOf keyOf typedOf rowLine classOf ofFields lineOf lacks lacksNone readyOf rowFits openOf fitsOf headerAllowed endAllowed rowAllowed allowedAt nextAt allPass endIn rowsIn
+unfolding markOf run same body linesOf fieldsFrom fieldsIn cubeOf digits numberOf otherKey keyOf typedOf rowLine classOf ofFields lineOf nameByte allName nameOk holds goodNames countFrom namesCount sameFields namesIn lacks lacksNone readyOf rowFits openOf fitsOf headerAllowed endAllowed rowAllowed named allowedBy allowedAt nextAt allPass endIn rowsIn
 count-wrong =
     record {
       before = linesOf i1;

@@ -8,20 +8,21 @@ use native.Mathlib.Omega.{arith}
 use lib.ListN.{length}
 use Rattle.fields.specs.Values.{most}
 use Rattle.fields.proofs.ValueLaws.{kept-same}
+use Rattle.names.specs.Names.{namesIn}
 use Rattle.lines.specs.Lines.{lineOf, keepLine}
-use Rattle.headers.specs.Headers.{allowedOf, nextOf, allowedAt, nextAt}
+use Rattle.headers.specs.Headers.{Point, allowedBy, nextBy, allowedAt, nextAt}
 use Rattle.headers.specs.Verdicts.{finishOf, judgeLines}
 use Rattle.headers.specs.declared.Layout.{Layout}
 use Rattle.headers.specs.declared.State.{State}
 use Rattle.headers.specs.declared.Verdict.{Verdict}
 use Rattle.headers.specs.declared.Verdict.the-variants.{Bad}
-use Rattle.headers.proofs.Counts.{onWant, allowed-on-count, next-on-count}
+use Rattle.headers.proofs.Counts.{onWant, onPoint, allowed-on-count, next-on-count}
 use Rattle.headers.proofs.Seeing.{rows-next-le}
 
 -- the verdict on lines as the code keeps them
-unfoldable pub judgeKept : Layout → List (List ℕ) → State → ℕ → Verdict
-judgeKept lay [] st k = finishOf st k
-judgeKept lay (l ∷ ls) st k = cond (allowedOf lay st (keepLine (lineOf l))) (judgeKept lay ls (nextOf st (keepLine (lineOf l)) k) (k + 1)) (Bad k)
+unfoldable pub judgeKept : Layout → List (List ℕ) → Point → ℕ → Verdict
+judgeKept lay [] pt k = finishOf (pt .state) k
+judgeKept lay (l ∷ ls) pt k = cond (allowedBy lay pt (keepLine (lineOf l)) (namesIn l)) (judgeKept lay ls (nextBy pt (keepLine (lineOf l)) (namesIn l) k) (k + 1)) (Bad k)
 
 abbrev cut : ℕ → ℕ
 cut v = min v most
@@ -30,10 +31,10 @@ finish-cut : (st : State) (k : ℕ) → st .rows < most → finishOf (onWant cut
 unfolding finishOf
 finish-cut st k h = rw (kept-same (st .want) (st .rows) h)
 
-pub judge-kept : (lay : Layout) (ls : List (List ℕ)) (st : State) (k : ℕ) → st .rows + length ls < most → judgeKept lay ls (onWant cut st) k ≡ judgeLines lay ls st k
+pub judge-kept : (lay : Layout) (ls : List (List ℕ)) (pt : Point) (k : ℕ) → pt .state .rows + length ls < most → judgeKept lay ls (onPoint cut pt) k ≡ judgeLines lay ls pt k
 unfolding judgeKept judgeLines allowedAt nextAt
-judge-kept lay [] st k h = finish-cut st k (omega arith)
-judge-kept lay (l ∷ ls) st k h =
-    rw (allowed-on-count cut lay st (lineOf l), next-on-count cut st (lineOf l) k)
-    (ap (λ (v : Verdict). cond (allowedOf lay st (lineOf l)) v (Bad k))
-    (judge-kept lay ls (nextOf st (lineOf l) k) (k + 1) (omega (arith, rows-next-le st (lineOf l) k))))
+judge-kept lay [] pt k h = finish-cut (pt .state) k (omega arith)
+judge-kept lay (l ∷ ls) pt k h =
+    rw (allowed-on-count cut lay pt (lineOf l) (namesIn l), next-on-count cut pt (lineOf l) (namesIn l) k)
+    (ap (λ (v : Verdict). cond (allowedBy lay pt (lineOf l) (namesIn l)) v (Bad k))
+    (judge-kept lay ls (nextBy pt (lineOf l) (namesIn l) k) (k + 1) (omega (arith, rows-next-le (pt .state) (lineOf l) k))))

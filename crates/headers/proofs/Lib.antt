@@ -5,8 +5,8 @@ pub mod Counts
 pub mod Kept
 pub mod Turns
 pub mod Machine
-pub mod Completing
 pub mod After
+pub mod Completing
 pub mod Splitting
 pub mod Accepting
 pub mod PlaceLaws

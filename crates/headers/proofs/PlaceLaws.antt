@@ -12,9 +12,10 @@ use borrow.Author.Tests.{ne-eqb, eqb-false}
 use Rattle.table.proofs.Basics.{and-i, and-l}
 use Rattle.fields.specs.Texts.{linesOf}
 use Rattle.fields.proofs.JoinLaws.{NoFeed, NoFeeds, textOf, lines-of-text, lines-no-feeds, append-no-feeds}
+use Rattle.names.specs.Names.{namesIn}
 use Rattle.lines.specs.Lines.{lineOf, viewOf}
 use Rattle.lines.proofs.Written.{countText, count-text, count-no-feed}
-use Rattle.headers.specs.Headers.{allowedAt, nextOf, nextAt, freshState}
+use Rattle.headers.specs.Headers.{nextOf, Point, nextBy, allowedAt, nextAt, freshPoint}
 use Rattle.headers.specs.Verdicts.{finishOf, judgeLines, judgeOf}
 use Rattle.headers.specs.Accepted.{isHeader, rowsIn, Accepted}
 use Rattle.headers.specs.Places.{Counts, Alike, Begins, endIn, FaultyLine, EndMissing, WrongCount, Place}
@@ -78,47 +79,48 @@ unfolding recountAs
 recount-want-line true r l st k e h = rw (count-text r) (λ c. refl)
 recount-want-line false r l st k e h = λ c. next-goes st (lineOf l) k .want e ∙ h (sym (has-next st (lineOf l) k Count ∙ ap (λ (t : Bool). t || st .seen .count) e) ∙ c)
 
-recount-wants : (r : ℕ) (ls : List (List ℕ)) (st : State) (k : ℕ) → Wants r st → Wants r (after (recount r ls) st k)
+recount-wants : (r : ℕ) (ls : List (List ℕ)) (pt : Point) (k : ℕ) → Wants r (pt .state) → Wants r (after (recount r ls) pt k .state)
 unfolding recount stateAfter nextAt
-recount-wants r [] st k h = h
-recount-wants r (l ∷ ls) st k h =
-    recount-wants r ls (nextOf st (lineOf (recountAs (isHeader Count (lineOf l)) r l)) k) (k + 1) (recount-want-line (isHeader Count (lineOf l)) r l st k refl h)
+recount-wants r [] pt k h = h
+recount-wants r (l ∷ ls) pt k h =
+    let m = recountAs (isHeader Count (lineOf l)) r l in
+    recount-wants r ls (nextBy pt (lineOf m) (namesIn m) k) (k + 1) (recount-want-line (isHeader Count (lineOf l)) r l (pt .state) k refl h)
 
 -- ---- lines begin an accepted text exactly when they all pass
 
-pub passes-begins : (lay : Layout) (ls : List (List ℕ)) → NoFeeds ls → passes lay ls freshState 1 ≡ true → Begins lay ls
+pub passes-begins : (lay : Layout) (ls : List (List ℕ)) → NoFeeds ls → passes lay ls freshPoint 1 ≡ true → Begins lay ls
 passes-begins lay ls clean h =
     let r = rowsIn ls in
     let ms = recount r ls in
-    let p : passes lay ms freshState 1 ≡ true = sym (alike-pass lay ls ms freshState freshState 1 (recount-alike r ls) refl) ∙ h in
-    let st = after ms freshState 1 in
-    let c = leads-on lay st (length ms + 1) (sound-passing lay ms p) in
-    let last = after (c .0) st (length ms + 1) in
+    let p : passes lay ms freshPoint 1 ≡ true = sym (alike-pass lay ls ms freshPoint freshPoint 1 (recount-alike r ls) refl) ∙ h in
+    let pt = after ms freshPoint 1 in
+    let c = leads-on lay pt (length ms + 1) (sound-passing lay ms p) in
+    let last = after (c .0) pt (length ms + 1) in
     let lines : linesOf (textOf (ms ++ c .0)) ≡ ms ++ c .0 = lines-of-text (ms ++ c .0) (append-no-feeds ms (c .0) (recount-clean r ls clean) (c .1 .clean)) in
-    let rows : last .rows ≡ r = c .1 .beside .rows ∙ after-rows ms freshState 1 ∙ zero-add (rowsIn ms) ∙ recount-rows r ls in
-    let wants : Wants r last = λ d. c .1 .beside .want ∙ recount-wants r ls freshState 1 (λ z. none z) (sym (c .1 .beside .count) ∙ d) in
-    let good : judgeLines lay (linesOf (textOf (ms ++ c .0))) freshState 1 ≡ Good (last .size) =
-    ap (λ (x : List (List ℕ)). judgeLines lay x freshState 1) lines
-    ∙ judge-passing lay (ms ++ c .0) freshState 1 (pass-append (allowedAt lay) nextAt ms (c .0) freshState 1 p (c .1 .passing))
-    ∙ ap (λ (s : State). finishOf s (length (ms ++ c .0) + 1)) (after-append nextAt ms (c .0) freshState 1)
-    ∙ finish-i last _ (last .size) (record { ended = c .1 .ended; counts = λ d. wants d ∙ sym rows; size = refl }) in
+    let rows : last .state .rows ≡ r = c .1 .beside .rows ∙ after-rows ms freshPoint 1 ∙ zero-add (rowsIn ms) ∙ recount-rows r ls in
+    let wants : Wants r (last .state) = λ d. c .1 .beside .want ∙ recount-wants r ls freshPoint 1 (λ z. none z) (sym (c .1 .beside .count) ∙ d) in
+    let good : judgeLines lay (linesOf (textOf (ms ++ c .0))) freshPoint 1 ≡ Good (last .state .size) =
+    ap (λ (x : List (List ℕ)). judgeLines lay x freshPoint 1) lines
+    ∙ judge-passing lay (ms ++ c .0) freshPoint 1 (pass-append (allowedAt lay) nextAt ms (c .0) freshPoint 1 p (c .1 .passing))
+    ∙ ap (λ (q : Point). finishOf (q .state) (length (ms ++ c .0) + 1)) (after-append nextAt ms (c .0) freshPoint 1)
+    ∙ finish-i (last .state) _ (last .state .size) (record { ended = c .1 .ended; counts = λ d. wants d ∙ sym rows; size = refl }) in
     record {
       text = textOf (ms ++ c .0);
       first = ms;
       others = c .0;
       lines = lines;
       alike = recount-alike r ls;
-      size = last .size;
-      accepted = good-text lay (linesOf (textOf (ms ++ c .0))) (last .size) good;
+      size = last .state .size;
+      accepted = good-text lay (linesOf (textOf (ms ++ c .0))) (last .state .size) good;
     }
   where
     none : false ≡ true → _≡_ {A = ℕ} 0 (rowsIn ls)
     none e = absurd (false≢true e)
 
-pub begins-passes : (lay : Layout) (ls : List (List ℕ)) → Begins lay ls → passes lay ls freshState 1 ≡ true
+pub begins-passes : (lay : Layout) (ls : List (List ℕ)) → Begins lay ls → passes lay ls freshPoint 1 ≡ true
 begins-passes lay ls b =
-    alike-pass lay ls (b .first) freshState freshState 1 (b .alike) refl
-    ∙ pass-first (allowedAt lay) nextAt (b .first) (b .others) freshState 1 (rw (b .lines) at (text-passes lay (b .size) (linesOf (b .text)) (b .accepted)))
+    alike-pass lay ls (b .first) freshPoint freshPoint 1 (b .alike) refl
+    ∙ pass-first (allowedAt lay) nextAt (b .first) (b .others) freshPoint 1 (rw (b .lines) at (text-passes lay (b .size) (linesOf (b .text)) (b .accepted)))
 
 -- ---- the theorem
 
@@ -132,37 +134,37 @@ or-end false = refl
 
 module _ (lay : Layout) (t : List ℕ) where
   abbrev last : State
-  last = after (linesOf t) freshState 1
+  last = after (linesOf t) freshPoint 1 .state
 
   ended-is : last .ended ≡ endIn (linesOf t)
-  ended-is = after-ended (linesOf t) freshState 1 ∙ or-end (endIn (linesOf t))
+  ended-is = after-ended (linesOf t) freshPoint 1 ∙ or-end (endIn (linesOf t))
 
   rows-are : last .rows ≡ rowsIn (linesOf t)
-  rows-are = after-rows (linesOf t) freshState 1 ∙ zero-add (rowsIn (linesOf t))
+  rows-are = after-rows (linesOf t) freshPoint 1 ∙ zero-add (rowsIn (linesOf t))
 
-  passing-verdict : passes lay (linesOf t) freshState 1 ≡ true → judgeOf lay t ≡ finishOf last (length (linesOf t) + 1)
+  passing-verdict : passes lay (linesOf t) freshPoint 1 ≡ true → judgeOf lay t ≡ finishOf last (length (linesOf t) + 1)
   unfolding judgeOf
-  passing-verdict p = judge-passing lay (linesOf t) freshState 1 p
+  passing-verdict p = judge-passing lay (linesOf t) freshPoint 1 p
 
   -- the first line that is not allowed is faulty, and the verdict's place
-  module _ (pre : List (List ℕ)) (l : List ℕ) (post : List (List ℕ)) (e : linesOf t ≡ pre ++ l ∷ post) (p : passes lay pre freshState 1 ≡ true) where
-    stuck-verdict : allowedAt lay (after pre freshState 1) l ≡ false → judgeOf lay t ≡ Bad (length pre + 1)
+  module _ (pre : List (List ℕ)) (l : List ℕ) (post : List (List ℕ)) (e : linesOf t ≡ pre ++ l ∷ post) (p : passes lay pre freshPoint 1 ≡ true) where
+    stuck-verdict : allowedAt lay (after pre freshPoint 1) l ≡ false → judgeOf lay t ≡ Bad (length pre + 1)
     unfolding judgeOf
-    stuck-verdict s = ap (λ (x : List (List ℕ)). judgeLines lay x freshState 1) e ∙ judge-stuck lay pre l post freshState 1 p s
+    stuck-verdict s = ap (λ (x : List (List ℕ)). judgeLines lay x freshPoint 1) e ∙ judge-stuck lay pre l post freshPoint 1 p s
 
     -- one line more passes exactly if it is allowed
-    one-more : passes lay (pre ++ l ∷ []) freshState 1 ≡ true → allowedAt lay (after pre freshState 1) l ≡ true
+    one-more : passes lay (pre ++ l ∷ []) freshPoint 1 ≡ true → allowedAt lay (after pre freshPoint 1) l ≡ true
     unfolding allPass
-    one-more q = and-l (allowedAt lay (after pre freshState 1) l) _ (pass-others (allowedAt lay) nextAt pre (l ∷ []) freshState 1 q)
+    one-more q = and-l (allowedAt lay (after pre freshPoint 1) l) _ (pass-others (allowedAt lay) nextAt pre (l ∷ []) freshPoint 1 q)
 
-    one-more-back : allowedAt lay (after pre freshState 1) l ≡ true → passes lay (pre ++ l ∷ []) freshState 1 ≡ true
+    one-more-back : allowedAt lay (after pre freshPoint 1) l ≡ true → passes lay (pre ++ l ∷ []) freshPoint 1 ≡ true
     unfolding allPass
-    one-more-back a = pass-append (allowedAt lay) nextAt pre (l ∷ []) freshState 1 p (and-i _ _ a refl)
+    one-more-back a = pass-append (allowedAt lay) nextAt pre (l ∷ []) freshPoint 1 p (and-i _ _ a refl)
 
     pre-clean : NoFeeds (pre ++ l ∷ [])
     pre-clean = first-no-feeds (pre ++ l ∷ []) post (rw (append-assoc pre (l ∷ []) post, ← e) (lines-no-feeds t))
 
-  stuck-faulty : (k : ℕ) → judgeOf lay t ≡ Bad k → Stuck (allowedAt lay) nextAt (linesOf t) freshState 1 → FaultyLine lay t k
+  stuck-faulty : (k : ℕ) → judgeOf lay t ≡ Bad k → Stuck (allowedAt lay) nextAt (linesOf t) freshPoint 1 → FaultyLine lay t k
   stuck-faulty k h s =
       let v : Bad k ≡ Bad (length (s .before) + 1) = sym h ∙ stuck-verdict (s .before) (s .line) (s .after) (s .lines) (s .passed) (s .stopped) in
       record {
@@ -178,14 +180,14 @@ module _ (lay : Layout) (t : List ℕ) where
       }
 
   -- a text whose lines all pass is refused only at its end
-  passing-place : (k : ℕ) → judgeOf lay t ≡ Bad k → passes lay (linesOf t) freshState 1 ≡ true → EndMissing lay t k ⊎ WrongCount lay t k
+  passing-place : (k : ℕ) → judgeOf lay t ≡ Bad k → passes lay (linesOf t) freshPoint 1 ≡ true → EndMissing lay t k ⊎ WrongCount lay t k
   unfolding finishOf
   passing-place k h p = go (last .ended) refl (last .seen .count) refl (eqb (last .want) (last .rows)) refl (sym h ∙ passing-verdict p)
     where
       wrong : last .ended ≡ true → last .seen .count ≡ true → eqb (last .want) (last .rows) ≡ false → Bad k ≡ Bad (last .place) → WrongCount lay t k
       wrong e c w v =
-          let i = count-in (linesOf t) freshState 1 refl c in
-          let d : CountStood (i .count) (length (i .before) + 1) last = counted-at lay (linesOf t) (i .before) (i .line) (i .after) freshState 1 (i .count) (i .lines) (i .counts) p in
+          let i = count-in (linesOf t) freshPoint 1 refl c in
+          let d : CountStood (i .count) (length (i .before) + 1) last = counted-at lay (linesOf t) (i .before) (i .line) (i .after) freshPoint 1 (i .count) (i .lines) (i .counts) p in
           record {
             before = i .before;
             line = i .line;
@@ -208,15 +210,15 @@ module _ (lay : Layout) (t : List ℕ) where
       go true e true f false g v = inr (wrong e f g v)
 
   pub bad-place : (k : ℕ) → judgeOf lay t ≡ Bad k → Place lay t k
-  bad-place k h = ⊎-elim (λ p. inr (passing-place k h p)) (λ s. inl (stuck-faulty k h s)) (pass-or-stuck (allowedAt lay) nextAt (linesOf t) freshState 1)
+  bad-place k h = ⊎-elim (λ p. inr (passing-place k h p)) (λ s. inl (stuck-faulty k h s)) (pass-or-stuck (allowedAt lay) nextAt (linesOf t) freshPoint 1)
 
   faulty-bad : (k : ℕ) → FaultyLine lay t k → judgeOf lay t ≡ Bad k
-  faulty-bad k f = go (allowedAt lay (after (f .before) freshState 1) (f .line)) refl
+  faulty-bad k f = go (allowedAt lay (after (f .before) freshPoint 1) (f .line)) refl
     where
-      passed : passes lay (f .before) freshState 1 ≡ true
+      passed : passes lay (f .before) freshPoint 1 ≡ true
       passed = begins-passes lay (f .before) (f .begins)
 
-      go : (a : Bool) → allowedAt lay (after (f .before) freshState 1) (f .line) ≡ a → judgeOf lay t ≡ Bad k
+      go : (a : Bool) → allowedAt lay (after (f .before) freshPoint 1) (f .line) ≡ a → judgeOf lay t ≡ Bad k
       go true a =
           absurd (f .begins-no-more (passes-begins lay (f .before ++ f .line ∷ []) (pre-clean (f .before) (f .line) (f .after) (f .lines) passed)
           (one-more-back (f .before) (f .line) (f .after) (f .lines) passed a)))
@@ -230,7 +232,7 @@ module _ (lay : Layout) (t : List ℕ) where
   unfolding finishOf
   count-bad k w =
       let p = begins-passes lay (linesOf t) (w .begins) in
-      let d : CountStood (w .count) (length (w .before) + 1) last = counted-at lay (linesOf t) (w .before) (w .line) (w .after) freshState 1 (w .count) (w .lines) (w .counts) p in
+      let d : CountStood (w .count) (length (w .before) + 1) last = counted-at lay (linesOf t) (w .before) (w .line) (w .after) freshPoint 1 (w .count) (w .lines) (w .counts) p in
       passing-verdict p
       ∙ rw (ended-is ∙ w .ended, d .is, ne-eqb (last .want) (last .rows) (λ q. w .wrong (sym (d .count) ∙ q ∙ rows-are)))
       (ap Bad (d .at ∙ sym (w .number)))

@@ -14,13 +14,14 @@ use Rattle.lines.specs.declared.Part.the-variants.{Ins, Outs}
 use Rattle.lines.specs.declared.Kind.{Kind}
 use Rattle.lines.specs.declared.Kind.the-variants.{Recording, Sheet}
 use Rattle.lines.specs.declared.Line.{Line}
-use Rattle.lines.specs.declared.Line.the-variants.{Empty, Sized, Typed, Rows, Row, End, Fault}
+use Rattle.lines.specs.declared.Line.the-variants.{Empty, Sized, Named, Typed, Rows, Row, End, Fault}
 use Rattle.headers.specs.Headers.{everyHeader, hasHeader, lacks, lacksNone, readyOf, sameKind, openOf, headerAllowed, endAllowed, allowedOf, withHeader, nextOf}
-use Rattle.headers.specs.Accepted.{samePart, sameHeader, isHeader, isRow, one}
+use Rattle.headers.specs.Layouts.{samePart, sameHeader}
+use Rattle.headers.specs.Accepted.{isHeader, isRow, one}
 use Rattle.headers.specs.Places.{isEnd}
 use Rattle.headers.specs.declared.Layout.{Layout}
 use Rattle.headers.specs.declared.Header.{Header}
-use Rattle.headers.specs.declared.Header.the-variants.{Size, TypeWord, Count}
+use Rattle.headers.specs.declared.Header.the-variants.{Size, Names, TypeWord, Count}
 use Rattle.headers.specs.declared.Seen.{Seen}
 use Rattle.headers.specs.declared.State.{State}
 
@@ -36,7 +37,7 @@ pub kind-self : (a : Kind) → sameKind a a ≡ true
 kind-self Recording = refl
 kind-self Sheet = refl
 
-same-part : (p q : Part) → samePart p q ≡ true → p ≡ q
+pub same-part : (p q : Part) → samePart p q ≡ true → p ≡ q
 same-part Ins Ins e = refl
 same-part Ins Outs e = absurd (false≢true e)
 same-part Outs Ins e = absurd (false≢true e)
@@ -44,40 +45,39 @@ same-part Outs Outs e = refl
 
 pub same-header : (h g : Header) → sameHeader h g ≡ true → h ≡ g
 same-header (Size p) (Size q) e = ap Size (same-part p q e)
+same-header (Size p) (Names q) e = absurd (false≢true e)
 same-header (Size p) TypeWord e = absurd (false≢true e)
 same-header (Size p) Count e = absurd (false≢true e)
+same-header (Names p) (Size q) e = absurd (false≢true e)
+same-header (Names p) (Names q) e = ap Names (same-part p q e)
+same-header (Names p) TypeWord e = absurd (false≢true e)
+same-header (Names p) Count e = absurd (false≢true e)
 same-header TypeWord (Size q) e = absurd (false≢true e)
+same-header TypeWord (Names q) e = absurd (false≢true e)
 same-header TypeWord TypeWord e = refl
 same-header TypeWord Count e = absurd (false≢true e)
 same-header Count (Size q) e = absurd (false≢true e)
+same-header Count (Names q) e = absurd (false≢true e)
 same-header Count TypeWord e = absurd (false≢true e)
 same-header Count Count e = refl
 
 pub header-self : (h : Header) → sameHeader h h ≡ true
 header-self (Size Ins) = refl
 header-self (Size Outs) = refl
+header-self (Names Ins) = refl
+header-self (Names Outs) = refl
 header-self TypeWord = refl
 header-self Count = refl
 
 -- ---- the headers that stood there
 
 pub has-with : (s : Seen) (h g : Header) → hasHeader (withHeader s g) h ≡ (sameHeader h g || hasHeader s h)
-has-with s (Size Ins) (Size Ins) = refl
-has-with s (Size Ins) (Size Outs) = refl
-has-with s (Size Outs) (Size Ins) = refl
-has-with s (Size Outs) (Size Outs) = refl
-has-with s (Size Ins) TypeWord = refl
-has-with s (Size Outs) TypeWord = refl
-has-with s (Size Ins) Count = refl
-has-with s (Size Outs) Count = refl
-has-with s TypeWord (Size Ins) = refl
-has-with s TypeWord (Size Outs) = refl
-has-with s TypeWord TypeWord = refl
-has-with s TypeWord Count = refl
-has-with s Count (Size Ins) = refl
-has-with s Count (Size Outs) = refl
-has-with s Count TypeWord = refl
-has-with s Count Count = refl
+has-with s (Size Ins) g = refl
+has-with s (Size Outs) g = refl
+has-with s (Names Ins) g = refl
+has-with s (Names Outs) g = refl
+has-with s TypeWord g = refl
+has-with s Count g = refl
 
 -- what a line does to the state: its header stands there, its row is counted, its end mark is known; only `.p` gives a number and its place
 pub record Goes (l : Line) (st next : State) : Type 0 where
@@ -90,6 +90,7 @@ pub record Goes (l : Line) (st next : State) : Type 0 where
 pub next-goes : (st : State) (l : Line) (k : ℕ) → Goes l st (nextOf st l k)
 next-goes st Empty k = record { has = λ h. refl; rows = omega arith; ended = refl; want = λ e. refl; place = λ e. refl }
 next-goes st (Sized p n) k = record { has = λ h. has-with (st .seen) h (Size p); rows = omega arith; ended = refl; want = λ e. refl; place = λ e. refl }
+next-goes st (Named p n) k = record { has = λ h. has-with (st .seen) h (Names p); rows = omega arith; ended = refl; want = λ e. refl; place = λ e. refl }
 next-goes st (Typed t) k = record { has = λ h. has-with (st .seen) h TypeWord; rows = omega arith; ended = refl; want = λ e. refl; place = λ e. refl }
 next-goes st (Rows v) k =
     record { has = λ h. has-with (st .seen) h Count; rows = omega arith; ended = refl; want = λ e. absurd (false≢true (sym e)); place = λ e. absurd (false≢true (sym e)) }
@@ -104,6 +105,7 @@ has-next st l k h = next-goes st l k .has h
 pub count-line : (l : Line) → isHeader Count l ≡ true → (v : ℕ) × (l ≡ Rows v)
 count-line Empty e = absurd (false≢true e)
 count-line (Sized p n) e = absurd (false≢true e)
+count-line (Named p n) e = absurd (false≢true e)
 count-line (Typed t) e = absurd (false≢true e)
 count-line (Rows v) e = (v, refl)
 count-line (Row m) e = absurd (false≢true e)
@@ -128,8 +130,10 @@ In h (g ∷ gs) = (h ≡ g) ⊎ In h gs
 pub in-every : (h : Header) → In h everyHeader
 in-every (Size Ins) = inl refl
 in-every (Size Outs) = inr (inl refl)
-in-every TypeWord = inr (inr (inl refl))
-in-every Count = inr (inr (inr (inl refl)))
+in-every (Names Ins) = inr (inr (inl refl))
+in-every (Names Outs) = inr (inr (inr (inl refl)))
+in-every TypeWord = inr (inr (inr (inr (inl refl))))
+in-every Count = inr (inr (inr (inr (inr (inl refl)))))
 
 none-missing : (lay : Layout) (s : Seen) (hs : List Header) → ((h : Header) → lacks lay s h ≡ false) → lacksNone lay s hs ≡ true
 unfolding lacksNone
@@ -151,10 +155,20 @@ pub ready-e : (lay : Layout) (s : Seen) → readyOf lay s ≡ true → (h : Head
 unfolding readyOf
 ready-e lay s r h = none-lacked lay s everyHeader r h (in-every h)
 
--- the last of some headers, as the code asks for it
-pub last-lacked : (r t : Bool) → r ≡ t → not r ≡ (not t && true)
-last-lacked r true e = ap not e
-last-lacked r false e = ap not e
+-- as the code asks: two headers at a time
+pub ready-pairs : (lay : Layout) (s : Seen)
+    → readyOf lay s ≡ (not (lacks lay s (Size Ins) || lacks lay s (Size Outs)) && (not (lacks lay s (Names Ins) || lacks lay s (Names Outs)) && not (lacks lay s TypeWord || lacks lay s Count)))
+unfolding readyOf lacksNone
+ready-pairs lay s = go (lacks lay s (Size Ins)) (lacks lay s (Size Outs)) (lacks lay s (Names Ins)) (lacks lay s (Names Outs)) (lacks lay s TypeWord) (lacks lay s Count)
+  where
+    go : (a b c d e f : Bool) → (not a && (not b && (not c && (not d && (not e && (not f && true)))))) ≡ (not (a || b) && (not (c || d) && not (e || f)))
+    go true b c d e f = refl
+    go false true c d e f = refl
+    go false false true d e f = refl
+    go false false false true e f = refl
+    go false false false false true f = refl
+    go false false false false false true = refl
+    go false false false false false false = refl
 
 -- ---- what a line that is allowed tells of the state
 
@@ -198,6 +212,7 @@ end-i lay st e r = and-i _ _ (ap not e) r
 pub new-header : (lay : Layout) (st : State) (l : Line) (h : Header) → allowedOf lay st l ≡ true → isHeader h l ≡ true → hasHeader (st .seen) h ≡ false
 new-header lay st Empty h a i = absurd (false≢true i)
 new-header lay st (Sized p n) h a i = ap (λ (x : Header). hasHeader (st .seen) x) (same-header h (Size p) i) ∙ header-new st (Size p) _ a
+new-header lay st (Named p n) h a i = ap (λ (x : Header). hasHeader (st .seen) x) (same-header h (Names p) i) ∙ header-new st (Names p) _ a
 new-header lay st (Typed t) h a i = ap (λ (x : Header). hasHeader (st .seen) x) (same-header h TypeWord i) ∙ header-new st TypeWord _ a
 new-header lay st (Rows v) h a i = ap (λ (x : Header). hasHeader (st .seen) x) (same-header h Count i) ∙ header-new st Count _ a
 new-header lay st (Row m) h a i = absurd (false≢true i)

@@ -4,34 +4,36 @@ use mathlib.Core.Path.{_≡_, refl}
 use mathlib.Core.Logic.{inl, inr}
 use mathlib.Core.List.{List, [], _∷_, _++_}
 use native.Mathlib.Omega.{arith}
+use Rattle.names.specs.Names.{namesIn}
 use Rattle.lines.specs.Lines.{lineOf, viewOf}
 use Rattle.lines.specs.Bounds.{LineOk}
 use Rattle.lines.specs.declared.Part.the-variants.{Ins}
 use Rattle.lines.specs.declared.View.{View}
 use Rattle.lines.specs.declared.View.the-variants.{Cells, EndMark, Aside}
 use Rattle.lines.specs.declared.Line.{Line}
-use Rattle.lines.specs.declared.Line.the-variants.{Empty, Sized, Typed, Rows, Row, End, Fault}
+use Rattle.lines.specs.declared.Line.the-variants.{Empty, Sized, Named, Typed, Rows, Row, End, Fault}
 use Rattle.lines.proofs.BoundLaws.{line-ok}
-use Rattle.headers.specs.Accepted.{one, isHeader, times, rowsIn, Fits, HeaderLine, RowLine, All, Text}
+use Rattle.headers.specs.Accepted.{one, isHeader, times, rowsIn, Fits, HeaderLine, RowLine, EmptyLine, All, Text}
 use Rattle.headers.specs.declared.Layout.{Layout}
 use Rattle.headers.specs.declared.Header.the-variants.{Size}
 
-size-line : (lay : Layout) (n r t : ℕ) (l : Line) → LineOk l → HeaderLine lay n r l → 1 ≤ one (isHeader (Size Ins) l) + t → (1 ≤ t → (1 ≤ n) × (n ≤ 10)) → (1 ≤ n) × (n ≤ 10)
-size-line lay n r t Empty o p c more = more (omega arith)
-size-line lay n r t (Sized q s) o p c more = (rw (← p) (o .0), rw (← p) (o .1))
-size-line lay n r t (Typed k) o p c more = more (omega arith)
-size-line lay n r t (Rows v) o p c more = more (omega arith)
-size-line lay n r t (Row m) o p c more = absurd p
-size-line lay n r t End o p c more = absurd p
-size-line lay n r t Fault o p c more = absurd p
+size-line : (lay : Layout) (n r t : ℕ) (ns own : List (List ℕ)) (l : Line) → LineOk l → HeaderLine lay n r ns l own → 1 ≤ one (isHeader (Size Ins) l) + t → (1 ≤ t → (1 ≤ n) × (n ≤ 10)) → (1 ≤ n) × (n ≤ 10)
+size-line lay n r t ns own Empty o p c more = more (omega arith)
+size-line lay n r t ns own (Sized q s) o p c more = (rw (← p) (o .0), rw (← p) (o .1))
+size-line lay n r t ns own (Named q s) o p c more = (rw (← (p .0)) (o .0), rw (← (p .0)) (o .1))
+size-line lay n r t ns own (Typed k) o p c more = more (omega arith)
+size-line lay n r t ns own (Rows v) o p c more = more (omega arith)
+size-line lay n r t ns own (Row m) o p c more = absurd p
+size-line lay n r t ns own End o p c more = absurd p
+size-line lay n r t ns own Fault o p c more = absurd p
 
-size-top : (lay : Layout) (n r : ℕ) (top : List (List ℕ)) → All (HeaderLine lay n r) top → 1 ≤ times (Size Ins) top → (1 ≤ n) × (n ≤ 10)
+size-top : (lay : Layout) (n r : ℕ) (ns top : List (List ℕ)) → All (HeaderLine lay n r ns) top → 1 ≤ times (Size Ins) top → (1 ≤ n) × (n ≤ 10)
 unfolding times
-size-top lay n r [] a c = absurd (omega arith)
-size-top lay n r (l ∷ top) a c = size-line lay n r (times (Size Ins) top) (lineOf l) (line-ok l) (a .0) c (size-top lay n r top (a .1))
+size-top lay n r ns [] a c = absurd (omega arith)
+size-top lay n r ns (l ∷ top) a c = size-line lay n r (times (Size Ins) top) ns (namesIn l) (lineOf l) (line-ok l) (a .0) c (size-top lay n r ns top (a .1))
 
 pub text-size : (lay : Layout) (n : ℕ) (ls : List (List ℕ)) → Text lay n ls → (1 ≤ n) × (n ≤ 10)
-text-size lay n ls t = size-top lay n _ (t .top) (t .headers) (omega (arith, t .asked (Size Ins) refl))
+text-size lay n ls t = size-top lay n _ (t .names) (t .top) (t .headers) (omega (arith, t .sized Ins))
 
 -- a row has n columns and fits the layout
 abbrev pub ViewFits : Layout → ℕ → View → Type 0
@@ -39,27 +41,28 @@ ViewFits lay n (Cells m) = Fits lay n m
 ViewFits lay n EndMark = Unit {0}
 ViewFits lay n Aside = Unit {0}
 
-abbrev pub RowFits : Layout → ℕ → Line → Type 0
-RowFits lay n l = ViewFits lay n (viewOf l)
+abbrev pub RowFits : Layout → ℕ → Line → List (List ℕ) → Type 0
+RowFits lay n l own = ViewFits lay n (viewOf l)
 
-header-fits : (lay : Layout) (n r : ℕ) (l : Line) → HeaderLine lay n r l → RowFits lay n l
-header-fits lay n r Empty p = tt
-header-fits lay n r (Sized q s) p = tt
-header-fits lay n r (Typed t) p = tt
-header-fits lay n r (Rows v) p = tt
-header-fits lay n r (Row m) p = absurd p
-header-fits lay n r End p = tt
-header-fits lay n r Fault p = tt
+header-fits : (lay : Layout) (n r : ℕ) (ns : List (List ℕ)) (l : Line) (own : List (List ℕ)) → HeaderLine lay n r ns l own → RowFits lay n l own
+header-fits lay n r ns Empty own p = tt
+header-fits lay n r ns (Sized q s) own p = tt
+header-fits lay n r ns (Named q s) own p = tt
+header-fits lay n r ns (Typed t) own p = tt
+header-fits lay n r ns (Rows v) own p = tt
+header-fits lay n r ns (Row m) own p = absurd p
+header-fits lay n r ns End own p = tt
+header-fits lay n r ns Fault own p = tt
 
-row-fits : (lay : Layout) (n : ℕ) (l : Line) → RowLine lay n l → RowFits lay n l
-row-fits lay n l (inl e) = rw e tt
-row-fits lay n l (inr p) = rw (p .1) (p .2)
+row-fits : (lay : Layout) (n : ℕ) (l : Line) (own : List (List ℕ)) → RowLine lay n l own → RowFits lay n l own
+row-fits lay n l own (inl e) = rw e tt
+row-fits lay n l own (inr p) = rw (p .1) (p .2)
 
-all-map : (P Q : Line → Type 0) → ((l : Line) → P l → Q l) → (ls : List (List ℕ)) → All P ls → All Q ls
+pub all-map : (P Q : Line → List (List ℕ) → Type 0) → ((l : Line) (own : List (List ℕ)) → P l own → Q l own) → (ls : List (List ℕ)) → All P ls → All Q ls
 all-map P Q f [] a = tt
-all-map P Q f (l ∷ ls) a = (f (lineOf l) (a .0), all-map P Q f ls (a .1))
+all-map P Q f (l ∷ ls) a = (f (lineOf l) (namesIn l) (a .0), all-map P Q f ls (a .1))
 
-all-append : (P : Line → Type 0) (ls ms : List (List ℕ)) → All P ls → All P ms → All P (ls ++ ms)
+pub all-append : (P : Line → List (List ℕ) → Type 0) (ls ms : List (List ℕ)) → All P ls → All P ms → All P (ls ++ ms)
 all-append P [] ms a b = b
 all-append P (l ∷ ls) ms a b = (a .0, all-append P ls ms (a .1) b)
 
@@ -67,6 +70,6 @@ all-append P (l ∷ ls) ms a b = (a .0, all-append P ls ms (a .1) b)
 pub text-rows : (lay : Layout) (n : ℕ) (ls : List (List ℕ)) → Text lay n ls → All (RowFits lay n) ls
 text-rows lay n ls t =
     rw (t .lines)
-    (all-append (RowFits lay n) (t .top) (t .middle ++ t .mark ∷ t .rest) (all-map (HeaderLine lay n (rowsIn (t .middle))) (RowFits lay n) (header-fits lay n (rowsIn (t .middle))) (t .top) (t .headers))
+    (all-append (RowFits lay n) (t .top) (t .middle ++ t .mark ∷ t .rest) (all-map (HeaderLine lay n (rowsIn (t .middle)) (t .names)) (RowFits lay n) (header-fits lay n (rowsIn (t .middle)) (t .names)) (t .top) (t .headers))
     (all-append (RowFits lay n) (t .middle) (t .mark ∷ t .rest) (all-map (RowLine lay n) (RowFits lay n) (row-fits lay n) (t .middle) (t .rows))
-    (rw (t .ends) tt, all-map (λ l. l ≡ Empty) (RowFits lay n) (λ l e. rw e tt) (t .rest) (t .empty))))
+    (rw (t .ends) tt, all-map EmptyLine (RowFits lay n) (λ l own e. rw e tt) (t .rest) (t .empty))))

@@ -1,10 +1,11 @@
--- The texts of a layout, in the words of document 01, over the list of their lines.
+-- The texts of a layout, in the words of documents 01 and 02, over the list of their lines.
 use Prim.Native.Nat.{ℕ, _+_, _^_, _≤_, _<_}
 use mathlib.Core.Path.{_≡_}
 use mathlib.Core.List.{List, [], _∷_, _++_}
 use mathlib.Core.Logic.{_⊎_}
 use mathlib.Core.Bool.{Bool, true, false, cond}
 use Rattle.fields.specs.Texts.{linesOf}
+use Rattle.names.specs.Names.{namesIn}
 use Rattle.lines.specs.Lines.{lineOf, viewOf}
 use Rattle.lines.specs.declared.Masks.{Masks}
 use Rattle.lines.specs.declared.Part.{Part}
@@ -12,35 +13,17 @@ use Rattle.lines.specs.declared.Part.the-variants.{Ins, Outs}
 use Rattle.lines.specs.declared.View.{View}
 use Rattle.lines.specs.declared.View.the-variants.{Cells, EndMark, Aside}
 use Rattle.lines.specs.declared.Line.{Line}
-use Rattle.lines.specs.declared.Line.the-variants.{Empty, Sized, Typed, Rows, Row, End, Fault}
-use Rattle.headers.specs.Layouts.{asks}
+use Rattle.lines.specs.declared.Line.the-variants.{Empty, Sized, Named, Typed, Rows, Row, End, Fault}
+use Rattle.headers.specs.Layouts.{sameHeader}
 use Rattle.headers.specs.declared.Layout.{Layout}
 use Rattle.headers.specs.declared.Header.{Header}
-use Rattle.headers.specs.declared.Header.the-variants.{Size, TypeWord, Count}
-
--- two sizes are of the same part
-abbrev pub samePart : Part → Part → Bool
-samePart Ins Ins = true
-samePart Ins Outs = false
-samePart Outs Ins = false
-samePart Outs Outs = true
-
--- two headers are the same
-abbrev pub sameHeader : Header → Header → Bool
-sameHeader (Size p) (Size q) = samePart p q
-sameHeader (Size p) TypeWord = false
-sameHeader (Size p) Count = false
-sameHeader TypeWord (Size q) = false
-sameHeader TypeWord TypeWord = true
-sameHeader TypeWord Count = false
-sameHeader Count (Size q) = false
-sameHeader Count TypeWord = false
-sameHeader Count Count = true
+use Rattle.headers.specs.declared.Header.the-variants.{Size, Names, TypeWord, Count}
 
 -- a line is this header
 abbrev pub isHeader : Header → Line → Bool
 isHeader h Empty = false
 isHeader h (Sized p n) = sameHeader h (Size p)
+isHeader h (Named p n) = sameHeader h (Names p)
 isHeader h (Typed t) = sameHeader h TypeWord
 isHeader h (Rows v) = sameHeader h Count
 isHeader h (Row m) = false
@@ -74,39 +57,48 @@ pub record Fits (lay : Layout) (n : ℕ) (m : Masks) : Type 0 where
   pub outputs : lay .unread ≡ false → m .unread ≡ 0
   pub single : lay .single ≡ true → (h : ℕ) × (h < 10) × (m .next ≡ 2 ^ h)
 
--- an empty line, or a header of a text of n columns and r rows: both sizes are n, the type word is the layout's, `.p` is r
-abbrev pub HeaderLine : Layout → ℕ → ℕ → Line → Type 0
-HeaderLine lay n r Empty = Unit {0}
-HeaderLine lay n r (Sized p s) = s ≡ n
-HeaderLine lay n r (Typed t) = t ≡ lay .kind
-HeaderLine lay n r (Rows v) = v ≡ r
-HeaderLine lay n r (Row m) = ⊥
-HeaderLine lay n r End = ⊥
-HeaderLine lay n r Fault = ⊥
+-- an empty line, or a header of a text of n columns, r rows and the names ns, `own` being the fields after its first: both sizes are n,
+-- a name line has n names, and these; the type word is the layout's, `.p` is r
+abbrev pub HeaderLine : Layout → ℕ → ℕ → List (List ℕ) → Line → List (List ℕ) → Type 0
+HeaderLine lay n r ns Empty own = Unit {0}
+HeaderLine lay n r ns (Sized p s) own = s ≡ n
+HeaderLine lay n r ns (Named p s) own = (s ≡ n) × (own ≡ ns)
+HeaderLine lay n r ns (Typed t) own = t ≡ lay .kind
+HeaderLine lay n r ns (Rows v) own = v ≡ r
+HeaderLine lay n r ns (Row m) own = ⊥
+HeaderLine lay n r ns End own = ⊥
+HeaderLine lay n r ns Fault own = ⊥
 
--- an empty line, or a row that fits
-abbrev pub RowLine : Layout → ℕ → Line → Type 0
-RowLine lay n l = (l ≡ Empty) ⊎ ((m : Masks) × (l ≡ Row m) × Fits lay n m)
+-- an empty line, or a row that fits; its fields are no names
+abbrev pub RowLine : Layout → ℕ → Line → List (List ℕ) → Type 0
+RowLine lay n l own = (l ≡ Empty) ⊎ ((m : Masks) × (l ≡ Row m) × Fits lay n m)
+
+-- an empty line
+abbrev pub EmptyLine : Line → List (List ℕ) → Type 0
+EmptyLine l own = l ≡ Empty
 
 -- every one of some lines is such
-abbrev pub All : (Line → Type 0) → List (List ℕ) → Type 0
+abbrev pub All : (Line → List (List ℕ) → Type 0) → List (List ℕ) → Type 0
 All P [] = Unit {0}
-All P (l ∷ ls) = P (lineOf l) × All P ls
+All P (l ∷ ls) = P (lineOf l) (namesIn l) × All P ls
 
 -- the lines of a text of n columns: headers, then rows, then one end mark, then blank lines and comments; each header stands at most
--- once, and exactly once where the layout asks for it
+-- once, both sizes exactly once, the type line too where the layout requires it, and both name lines or neither
 pub record Text (lay : Layout) (n : ℕ) (ls : List (List ℕ)) : Type 0 where
   pub top : List (List ℕ)
   pub middle : List (List ℕ)
   pub mark : List ℕ
   pub rest : List (List ℕ)
+  pub names : List (List ℕ)
   pub lines : ls ≡ top ++ (middle ++ mark ∷ rest)
-  pub headers : All (HeaderLine lay n (rowsIn middle)) top
+  pub headers : All (HeaderLine lay n (rowsIn middle) names) top
   pub once : (h : Header) → times h top ≤ 1
-  pub asked : (h : Header) → asks lay h ≡ true → times h top ≡ 1
+  pub sized : (p : Part) → times (Size p) top ≡ 1
+  pub typed : lay .typed ≡ true → times TypeWord top ≡ 1
+  pub both : times (Names Ins) top ≡ times (Names Outs) top
   pub rows : All (RowLine lay n) middle
   pub ends : lineOf mark ≡ End
-  pub empty : All (λ l. l ≡ Empty) rest
+  pub empty : All EmptyLine rest
 
 -- a text of this layout, for a panel of n relays
 abbrev pub Accepted : Layout → ℕ → List ℕ → Type 0

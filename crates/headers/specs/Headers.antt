@@ -3,34 +3,37 @@ use Prim.Native.Nat.{ℕ, zero, suc, _+_, _^_}
 use mathlib.Core.List.{List, [], _∷_}
 use mathlib.Core.Bool.{Bool, true, false, cond, not, _&&_, _||_}
 use lib.Dec.{eqb, ltb}
+use Rattle.names.specs.Names.{sameFields, namesIn}
 use Rattle.lines.specs.Lines.{lineOf}
 use Rattle.lines.specs.declared.Masks.{Masks}
 use Rattle.lines.specs.declared.Part.the-variants.{Ins, Outs}
 use Rattle.lines.specs.declared.Kind.{Kind}
 use Rattle.lines.specs.declared.Kind.the-variants.{Recording, Sheet}
 use Rattle.lines.specs.declared.Line.{Line}
-use Rattle.lines.specs.declared.Line.the-variants.{Empty, Sized, Typed, Rows, Row, End, Fault}
-use Rattle.headers.specs.Layouts.{asks}
+use Rattle.lines.specs.declared.Line.the-variants.{Empty, Sized, Named, Typed, Rows, Row, End, Fault}
+use Rattle.headers.specs.Layouts.{sameHeader, asks}
 use Rattle.headers.specs.declared.Layout.{Layout}
 use Rattle.headers.specs.declared.Header.{Header}
-use Rattle.headers.specs.declared.Header.the-variants.{Size, TypeWord, Count}
+use Rattle.headers.specs.declared.Header.the-variants.{Size, Names, TypeWord, Count}
 use Rattle.headers.specs.declared.Seen.{Seen}
 use Rattle.headers.specs.declared.State.{State}
 
--- every header: `.i`, `.o`, `.type`, `.p`
+-- every header: `.i`, `.o`, `.ilb`, `.ob`, `.type`, `.p`
 abbrev pub everyHeader : List Header
-everyHeader = Size Ins ∷ Size Outs ∷ TypeWord ∷ Count ∷ []
+everyHeader = Size Ins ∷ Size Outs ∷ Names Ins ∷ Names Outs ∷ TypeWord ∷ Count ∷ []
 
 -- this header stood there
 abbrev pub hasHeader : Seen → Header → Bool
 hasHeader s (Size Ins) = s .ins
 hasHeader s (Size Outs) = s .outs
+hasHeader s (Names Ins) = s .«in_names»
+hasHeader s (Names Outs) = s .«out_names»
 hasHeader s TypeWord = s .word
 hasHeader s Count = s .count
 
 -- this header must stand before the first row and the end mark, and does not stand there yet
 unfoldable pub lacks : Layout → Seen → Header → Bool
-lacks lay s h = not (hasHeader s h) && asks lay h
+lacks lay s h = not (hasHeader s h) && asks lay s h
 
 -- none of some headers is missing
 unfoldable pub lacksNone : Layout → Seen → List Header → Bool
@@ -65,7 +68,7 @@ rowFits lay m = (lay .dashes || eqb (m .free) 0) && ((lay .unread || eqb (m .unr
 unfoldable pub openOf : State → Bool
 openOf st = not (st .ended) && eqb (st .rows) 0
 
--- `.i n` and `.o n` are equal: no size is given yet, or it is the same
+-- two numbers of columns are equal: no size is given yet, or it is the same
 unfoldable pub fitsOf : ℕ → ℕ → Bool
 fitsOf size n = eqb size 0 || eqb size n
 
@@ -81,27 +84,56 @@ endAllowed lay st = not (st .ended) && readyOf lay (st .seen)
 unfoldable pub rowAllowed : Layout → State → Masks → Bool
 rowAllowed lay st m = endAllowed lay st && (eqb (st .size) (m .width) && rowFits lay m)
 
--- whether a line may stand where the lines before it led to this state
+-- whether a line may stand where the lines before it led to this state, the names themselves left aside
 abbrev pub allowedOf : Layout → State → Line → Bool
 allowedOf lay st Empty = true
 allowedOf lay st (Sized p n) = headerAllowed st (Size p) (fitsOf (st .size) n)
+allowedOf lay st (Named p n) = headerAllowed st (Names p) (fitsOf (st .size) n)
 allowedOf lay st (Typed t) = headerAllowed st TypeWord (sameKind (lay .kind) t)
 allowedOf lay st (Rows v) = headerAllowed st Count true
 allowedOf lay st (Row m) = rowAllowed lay st m
 allowedOf lay st End = endAllowed lay st
 allowedOf lay st Fault = false
 
+-- a name line stood there
+unfoldable pub named : Seen → Bool
+named s = s .«in_names» || s .«out_names»
+
+-- a line is a name line
+abbrev pub isNames : Line → Bool
+isNames Empty = false
+isNames (Sized p n) = false
+isNames (Named p n) = true
+isNames (Typed t) = false
+isNames (Rows v) = false
+isNames (Row m) = false
+isNames End = false
+isNames Fault = false
+
+-- the names ns of a name line are those that are held, if a name line stood there before
+abbrev pub agreesOf : Seen → List (List ℕ) → Line → List (List ℕ) → Bool
+agreesOf s held l ns = not (isNames l) || (not (named s) || sameFields held ns)
+
+-- what is held after a line: its own if it is a name line, else what was held
+abbrev pub heldOf : {A : Type 0} → Line → A → A → A
+heldOf l own held = cond (isNames l) own held
+
 -- the headers with one more
 abbrev pub withHeader : Seen → Header → Seen
-withHeader s (Size Ins) = record { ins = true; outs = s .outs; word = s .word; count = s .count }
-withHeader s (Size Outs) = record { ins = s .ins; outs = true; word = s .word; count = s .count }
-withHeader s TypeWord = record { ins = s .ins; outs = s .outs; word = true; count = s .count }
-withHeader s Count = record { ins = s .ins; outs = s .outs; word = s .word; count = true }
+withHeader s h = record {
+  ins = sameHeader (Size Ins) h || s .ins;
+  outs = sameHeader (Size Outs) h || s .outs;
+  «in_names» = sameHeader (Names Ins) h || s .«in_names»;
+  «out_names» = sameHeader (Names Outs) h || s .«out_names»;
+  word = sameHeader TypeWord h || s .word;
+  count = sameHeader Count h || s .count;
+}
 
 -- the state after a line, number k
 abbrev pub nextOf : State → Line → ℕ → State
 nextOf st Empty k = st
 nextOf st (Sized p n) k = record { seen = withHeader (st .seen) (Size p); size = n; want = st .want; place = st .place; rows = st .rows; ended = st .ended }
+nextOf st (Named p n) k = record { seen = withHeader (st .seen) (Names p); size = n; want = st .want; place = st .place; rows = st .rows; ended = st .ended }
 nextOf st (Typed t) k = record { seen = withHeader (st .seen) TypeWord; size = st .size; want = st .want; place = st .place; rows = st .rows; ended = st .ended }
 nextOf st (Rows v) k = record { seen = withHeader (st .seen) Count; size = st .size; want = v; place = k; rows = st .rows; ended = st .ended }
 nextOf st (Row m) k = record { seen = st .seen; size = st .size; want = st .want; place = st .place; rows = st .rows + 1; ended = st .ended }
@@ -110,11 +142,27 @@ nextOf st Fault k = st
 
 -- before the first line
 abbrev pub freshState : State
-freshState = record { seen = record { ins = false; outs = false; word = false; count = false }; size = 0; want = 0; place = 0; rows = 0; ended = false }
+freshState = record { seen = record { ins = false; outs = false; «in_names» = false; «out_names» = false; word = false; count = false }; size = 0; want = 0; place = 0; rows = 0; ended = false }
 
--- a line as it stands in the text: whether it may stand, and the state after it
-unfoldable pub allowedAt : Layout → State → List ℕ → Bool
-allowedAt lay st l = allowedOf lay st (lineOf l)
+-- where a text is read: the state, and the names of the name line that stood there
+pub record Point : Type 0 where
+  pub state : State
+  pub held : List (List ℕ)
 
-unfoldable pub nextAt : State → List ℕ → ℕ → State
-nextAt st l k = nextOf st (lineOf l) k
+-- before the first line
+abbrev pub freshPoint : Point
+freshPoint = record { state = freshState; held = [] }
+
+-- a line that says x, with the names ns: whether it may stand, and the point after it
+unfoldable pub allowedBy : Layout → Point → Line → List (List ℕ) → Bool
+allowedBy lay pt x ns = allowedOf lay (pt .state) x && agreesOf (pt .state .seen) (pt .held) x ns
+
+abbrev pub nextBy : Point → Line → List (List ℕ) → ℕ → Point
+nextBy pt x ns k = record { state = nextOf (pt .state) x k; held = heldOf x ns (pt .held) }
+
+-- the same of a line as it stands in the text
+unfoldable pub allowedAt : Layout → Point → List ℕ → Bool
+allowedAt lay pt l = allowedBy lay pt (lineOf l) (namesIn l)
+
+unfoldable pub nextAt : Point → List ℕ → ℕ → Point
+nextAt pt l k = nextBy pt (lineOf l) (namesIn l) k

@@ -4,7 +4,7 @@ use mathlib.Core.List.{List, [], _∷_}
 use mathlib.Core.Bool.{cond}
 use lib.Dec.{eqb}
 use Rattle.fields.specs.Texts.{linesOf}
-use Rattle.headers.specs.Headers.{allowedAt, nextAt, freshState}
+use Rattle.headers.specs.Headers.{Point, allowedAt, nextAt, freshPoint}
 use Rattle.headers.specs.declared.Layout.{Layout}
 use Rattle.headers.specs.declared.State.{State}
 use Rattle.headers.specs.declared.Verdict.{Verdict}
@@ -15,11 +15,11 @@ unfoldable pub finishOf : State → ℕ → Verdict
 finishOf st k =
     cond (st .ended) (cond (st .seen .count) (cond (eqb (st .want) (st .rows)) (Good (st .size)) (Bad (st .place))) (Good (st .size))) (Bad k)
 
--- the lines ls, numbered from k, after lines that led to a state: the first that is not allowed is faulty
-unfoldable pub judgeLines : Layout → List (List ℕ) → State → ℕ → Verdict
-judgeLines lay [] st k = finishOf st k
-judgeLines lay (l ∷ ls) st k = cond (allowedAt lay st l) (judgeLines lay ls (nextAt st l k) (k + 1)) (Bad k)
+-- the lines ls, numbered from k, after lines that led to a point: the first that is not allowed is faulty
+unfoldable pub judgeLines : Layout → List (List ℕ) → Point → ℕ → Verdict
+judgeLines lay [] pt k = finishOf (pt .state) k
+judgeLines lay (l ∷ ls) pt k = cond (allowedAt lay pt l) (judgeLines lay ls (nextAt pt l k) (k + 1)) (Bad k)
 
 -- the verdict on a text of a layout
 unfoldable pub judgeOf : Layout → List ℕ → Verdict
-judgeOf lay text = judgeLines lay (linesOf text) freshState 1
+judgeOf lay text = judgeLines lay (linesOf text) freshPoint 1

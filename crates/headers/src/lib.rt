@@ -7,8 +7,9 @@ ghost use mathlib.Core.Path.{_≡_};
 ghost use mathlib.Core.Bool.{_||_};
 ghost use Prim.Native.Nat.{_^_, _<_};
 ghost use lib.Dec.{eqb};
+ghost use Rattle.names.specs.Names.{namesIn};
 ghost use Rattle.headers.specs.Layouts.{recording, asks};
-ghost use Rattle.headers.specs.Headers.{hasHeader, lacks, readyOf, sameKind, onlyOn, rowFits, openOf, fitsOf, headerAllowed, rowAllowed, endAllowed, allowedOf, withHeader, nextOf};
+ghost use Rattle.headers.specs.Headers.{hasHeader, lacks, readyOf, sameKind, onlyOn, rowFits, openOf, fitsOf, headerAllowed, rowAllowed, endAllowed, allowedOf, named, isNames, agreesOf, heldOf, withHeader, nextOf};
 ghost use Rattle.headers.specs.Verdicts.{finishOf, judgeOf};
 
 // What is asked of a text: the word of its type line, and whether that line is required; whether `-` may stand in inputs and in
@@ -21,9 +22,10 @@ pub struct Layout {
     pub single: bool,
 }
 
-// A header: `.i` or `.o`, `.type`, `.p`.
+// A header: `.i` or `.o`, `.ilb` or `.ob`, `.type`, `.p`.
 pub enum Header {
     Size(Part),
+    Names(Part),
     TypeWord,
     Count,
 }
@@ -32,6 +34,8 @@ pub enum Header {
 pub struct Seen {
     pub ins: bool,
     pub outs: bool,
+    pub in_names: bool,
+    pub out_names: bool,
     pub word: bool,
     pub count: bool,
 }
@@ -94,16 +98,24 @@ fn has_header(s: Seen, h: Header) -> bool
             Part::Ins => s.ins,
             Part::Outs => s.outs,
         },
+        Header::Names(p) => match p {
+            Part::Ins => s.in_names,
+            Part::Outs => s.out_names,
+        },
         Header::TypeWord => s.word,
         Header::Count => s.count,
     }
 }
 
-fn asks_header(lay: Layout, h: Header) -> bool
-    ensures { λ r. ⌜ r ≡ asks lay h ⌝ }
+fn asks_header(lay: Layout, s: Seen, h: Header) -> bool
+    ensures { λ r. ⌜ r ≡ asks lay s h ⌝ }
 {
     match h {
         Header::Size(_) => true,
+        Header::Names(p) => match p {
+            Part::Ins => s.out_names,
+            Part::Outs => s.in_names,
+        },
         Header::TypeWord => lay.typed,
         Header::Count => false,
     }
@@ -116,23 +128,30 @@ fn lacks_header(lay: Layout, s: Seen, h: Header) -> bool
     if has_header(s, h) {
         return false;
     }
-    asks_header(lay, h)
+    asks_header(lay, s, h)
+}
+
+// One of two headers is missing.
+fn lacks_either(lay: Layout, s: Seen, a: Header, b: Header) -> bool
+    ensures { λ r. ⌜ r ≡ (lacks lay s a || lacks lay s b) ⌝ }
+{
+    if lacks_header(lay, s, a) {
+        return true;
+    }
+    lacks_header(lay, s, b)
 }
 
 // No header is missing.
 fn is_ready(lay: Layout, s: Seen) -> bool
     ensures { λ r. ⌜ r ≡ readyOf lay s ⌝ }
 {
-    if lacks_header(lay, s, Header::Size(Part::Ins)) {
+    if lacks_either(lay, s, Header::Size(Part::Ins), Header::Size(Part::Outs)) {
         return false;
     }
-    if lacks_header(lay, s, Header::Size(Part::Outs)) {
+    if lacks_either(lay, s, Header::Names(Part::Ins), Header::Names(Part::Outs)) {
         return false;
     }
-    if lacks_header(lay, s, Header::TypeWord) {
-        return false;
-    }
-    !lacks_header(lay, s, Header::Count)
+    !lacks_either(lay, s, Header::TypeWord, Header::Count)
 }
 
 fn same_kind(a: Kind, b: Kind) -> bool
@@ -234,6 +253,7 @@ fn allowed(lay: Layout, st: State, l: Line) -> bool
     match l {
         Line::Empty => true,
         Line::Sized(p, n) => header_allowed(st, Header::Size(p), fits(st.size, n)),
+        Line::Named(p, n) => header_allowed(st, Header::Names(p), fits(st.size, n)),
         Line::Typed(t) => {
             let k = lay.kind;
             header_allowed(st, Header::TypeWord, same_kind(k, t))
@@ -257,6 +277,16 @@ fn with_header(s: Seen, h: Header) -> Seen
             }
             Part::Outs => {
                 t.outs = true;
+                t
+            }
+        },
+        Header::Names(p) => match p {
+            Part::Ins => {
+                t.in_names = true;
+                t
+            }
+            Part::Outs => {
+                t.out_names = true;
                 t
             }
         },
@@ -286,6 +316,12 @@ fn next(st: State, l: Line, k: usize) -> State
             t.size = n;
             t
         }
+        Line::Named(p, n) => {
+            let w = with_header(s, Header::Names(p));
+            t.seen = w;
+            t.size = n;
+            t
+        }
         Line::Typed(_) => {
             let w = with_header(s, Header::TypeWord);
             t.seen = w;
@@ -308,6 +344,51 @@ fn next(st: State, l: Line, k: usize) -> State
         }
         Line::Fault => t,
     }
+}
+
+// A name line stood there.
+fn is_named(s: Seen) -> bool
+    ensures { λ r. ⌜ r ≡ named s ⌝ }
+{
+    if s.in_names {
+        return true;
+    }
+    s.out_names
+}
+
+fn is_names(l: Line) -> bool
+    ensures { λ r. ⌜ r ≡ isNames l ⌝ }
+{
+    match l {
+        Line::Empty => false,
+        Line::Sized(_, _) => false,
+        Line::Named(_, _) => true,
+        Line::Typed(_) => false,
+        Line::Rows(_) => false,
+        Line::Row(_) => false,
+        Line::End => false,
+        Line::Fault => false,
+    }
+}
+
+// The names of a name line are those of the name line before it, if there is one; `held` is that line.
+fn agrees(s: Seen, held: &[u8], l: Line, line: &[u8]) -> bool
+    ensures { λ r. ⌜ r ≡ agreesOf s (namesIn (now (held .entry))) l (namesIn (now (line .entry))) ⌝ }
+{
+    if !is_names(l) {
+        return true;
+    }
+    if !is_named(s) {
+        return true;
+    }
+    names::same_names(held, line)
+}
+
+// A place of the line itself if it is a name line, else the place that is held.
+fn held_at(l: Line, own: usize, held: usize) -> usize
+    ensures { λ r. ⌜ r ≡ heldOf l own held ⌝ }
+{
+    if is_names(l) { own } else { held }
 }
 
 // What is judged at the end of the text, k being the number after the last line.
@@ -334,6 +415,8 @@ pub fn judge(lay: Layout, text: &[u8]) -> Verdict
         seen: Seen {
             ins: false,
             outs: false,
+            in_names: false,
+            out_names: false,
             word: false,
             count: false,
         },
@@ -345,13 +428,21 @@ pub fn judge(lay: Layout, text: &[u8]) -> Verdict
     };
     let mut k = 1;
     let mut at = 0;
+    let mut from = 0;
+    let mut to = 0;
     while at < text.len() {
         let e = fields::line_end(text, at);
         let l = lines::scan_line(&text[at..e]);
         if !allowed(lay, st, l) {
             return Verdict::Bad(k);
         }
+        let s = st.seen;
+        if !agrees(s, &text[from..to], l, &text[at..e]) {
+            return Verdict::Bad(k);
+        }
         st = next(st, l, k);
+        from = held_at(l, at, from);
+        to = held_at(l, e, to);
         at = fields::past(e, text.len());
         k += 1;
     }

@@ -6,7 +6,7 @@ use Rattle.fields.specs.Bytes.{markOf, run, same}
 use Rattle.fields.specs.Texts.{body}
 use Rattle.fields.specs.Fields.{fieldsFrom, fieldsIn}
 use Rattle.fields.specs.Values.{cubeOf, digits, numberOf}
-use Rattle.lines.specs.Lines.{keyOf, typedOf, rowLine, classOf, ofFields, lineOf}
+use Rattle.lines.specs.Lines.{otherKey, keyOf, typedOf, rowLine, classOf, ofFields, lineOf}
 use Rattle.lines.specs.declared.Part.the-variants.{Ins}
 use Rattle.lines.specs.declared.Line.{Line}
 use Rattle.lines.specs.declared.Line.the-variants.{Empty, Sized, Row, End, Fault}
@@ -26,5 +26,5 @@ pub lines-say : Says (
     ∷ (32 ∷ 35 ∷ 32 ∷ 111 ∷ [], Empty)
     ∷ (49 ∷ 32 ∷ 49 ∷ 13 ∷ [], Fault)
     ∷ [])
-unfolding markOf run same body fieldsFrom fieldsIn cubeOf digits numberOf keyOf typedOf rowLine classOf ofFields lineOf
+unfolding markOf run same body fieldsFrom fieldsIn cubeOf digits numberOf otherKey keyOf typedOf rowLine classOf ofFields lineOf
 lines-say = (refl, (refl, (refl, (refl, (refl, (refl, (refl, tt)))))))

@@ -19,26 +19,38 @@ use Rattle.fields.specs.declared.Cube.the-variants.{Columns, NoCube}
 use Rattle.fields.specs.declared.Number.{Number}
 use Rattle.fields.specs.declared.Number.the-variants.{Value, NoNumber}
 use Rattle.fields.proofs.FieldLaws.{end-or, ne-lt, fields-none, fields-some, span-none, span-some}
-use Rattle.lines.specs.Lines.{sizedOf, typedOf, countOf, stopOf, keyLine, rowOf, rowLine, startLine, classOf, ofFields, keepLine}
+use Rattle.names.specs.Names.{namesCount}
+use Rattle.lines.specs.Lines.{columnsOf, sizedOf, namedOf, typedOf, countOf, stopOf, keyLine, rowOf, rowLine, startLine, classOf, ofFields, keepLine}
 use Rattle.lines.specs.declared.Kind.the-variants.{Recording, Sheet}
 use Rattle.lines.specs.declared.Part.{Part}
-use Rattle.lines.specs.declared.Key.the-variants.{Size, TypeWord, Count, Stop}
+use Rattle.lines.specs.declared.Key.the-variants.{Size, Names, TypeWord, Count, Stop}
 use Rattle.lines.specs.declared.Line.{Line}
-use Rattle.lines.specs.declared.Line.the-variants.{Empty, Sized, Typed, End, Fault}
+use Rattle.lines.specs.declared.Line.the-variants.{Empty, Sized, Named, Typed, End, Fault}
 
--- a size read from a number as it is kept, or from the number itself
-sized-kept : (p : Part) (n : Number) → sizedOf p (keep n) ≡ keepLine (sizedOf p n)
-sized-kept p NoNumber = refl
-sized-kept p (Value v) = go (eqb v 0) refl (ltb 10 v) refl
+-- columns read from a number as it is kept, or from the number itself
+columns-kept : (n : Number) → columnsOf (keep n) ≡ columnsOf n
+columns-kept NoNumber = refl
+columns-kept (Value v) = go (ltb 10 v) refl
   where
-    go : (t : Bool) → eqb v 0 ≡ t → (u : Bool) → ltb 10 v ≡ u
-        → cond (eqb (min v most) 0) Fault (cond (ltb 10 (min v most)) Fault (Sized p (min v most))) ≡ keepLine (cond t Fault (cond u Fault (Sized p v)))
-    go true e u f = rw (eqb-true v 0 e)
-    go false e true f =
-        rw (ne-eqb (min v most) 0 (λ z. eqb-false v 0 e (omega arith)), lt-ltb 10 (min v most) (omega (arith, ltb-true 10 v f)))
-    go false e false f =
-        let q : min v most ≡ v = omega (arith, ltb-false 10 v f) in
-        rw (q, e, f)
+    go : (t : Bool) → ltb 10 v ≡ t → cond (ltb 10 (min v most)) 0 (min v most) ≡ cond t 0 v
+    go true e = rw (lt-ltb 10 (min v most) (omega (arith, ltb-true 10 v e)))
+    go false e =
+        let q : min v most ≡ v = omega (arith, ltb-false 10 v e) in
+        rw (q, e)
+
+sized-kept : (p : Part) (n : ℕ) → sizedOf p n ≡ keepLine (sizedOf p n)
+sized-kept p n = go (eqb n 0)
+  where
+    go : (t : Bool) → cond t Fault (Sized p n) ≡ keepLine (cond t Fault (Sized p n))
+    go true = refl
+    go false = refl
+
+named-kept : (p : Part) (n : ℕ) → namedOf p n ≡ keepLine (namedOf p n)
+named-kept p n = go (eqb n 0)
+  where
+    go : (t : Bool) → cond t Fault (Named p n) ≡ keepLine (cond t Fault (Named p n))
+    go true = refl
+    go false = refl
 
 count-kept : (n : Number) → countOf (keep n) ≡ keepLine (countOf n)
 count-kept NoNumber = refl
@@ -74,8 +86,10 @@ row-kept w v = go (eqb (length w) (length v)) (leb (length w) 10)
 
 -- a keyword's line, over what the calls answer
 module _ (s : List ℕ) (o : List ℕ) (ho : o ≡ onlyOf (fieldsIn s)) (l : Line) where
-  pub size-line : (p : Part) (n : Number) → n ≡ keep (numberOf o) → l ≡ sizedOf p n → l ≡ keepLine (keyLine (Size p) (fieldsIn s))
-  size-line p n hn h = h ∙ ap (λ (x : Number). sizedOf p x) hn ∙ sized-kept p (numberOf o) ∙ ap (λ (x : List ℕ). keepLine (sizedOf p (numberOf x))) ho
+  pub size-line : (p : Part) (n : Number) (v : ℕ) → n ≡ keep (numberOf o) → v ≡ columnsOf n → l ≡ sizedOf p v → l ≡ keepLine (keyLine (Size p) (fieldsIn s))
+  size-line p n v hn hv h =
+      h ∙ ap (sizedOf p) (hv ∙ ap columnsOf hn ∙ columns-kept (numberOf o)) ∙ sized-kept p (columnsOf (numberOf o))
+      ∙ ap (λ (x : List ℕ). keepLine (sizedOf p (columnsOf (numberOf x)))) ho
 
   pub count-line : (n : Number) → n ≡ keep (numberOf o) → l ≡ countOf n → l ≡ keepLine (keyLine Count (fieldsIn s))
   count-line n hn h = h ∙ ap countOf hn ∙ count-kept (numberOf o) ∙ ap (λ (x : List ℕ). keepLine (countOf (numberOf x))) ho
@@ -85,6 +99,9 @@ module _ (s : List ℕ) (o : List ℕ) (ho : o ≡ onlyOf (fieldsIn s)) (l : Lin
 
   pub row-line : (w : List ℕ) → l ≡ rowLine w o → l ≡ keepLine (rowLine w (onlyOf (fieldsIn s)))
   row-line w h = h ∙ row-kept w o ∙ ap (λ (x : List ℕ). keepLine (rowLine w x)) ho
+
+pub names-line : (s : List ℕ) (l : Line) (p : Part) (n : Number) (v : ℕ) → n ≡ namesCount (fieldsIn s) → v ≡ columnsOf n → l ≡ namedOf p v → l ≡ keepLine (keyLine (Names p) (fieldsIn s))
+names-line s l p n v hn hv h = h ∙ ap (namedOf p) (hv ∙ ap columnsOf hn) ∙ named-kept p (columnsOf (namesCount (fieldsIn s)))
 
 pub stop-line : (s : List ℕ) (l : Line) → l ≡ stopOf (fieldsIn s) → l ≡ keepLine (keyLine Stop (fieldsIn s))
 stop-line s l h = h ∙ stop-kept (fieldsIn s)

@@ -14,30 +14,45 @@ use Rattle.fields.specs.declared.Cube.{Cube}
 use Rattle.fields.specs.declared.Cube.the-variants.{Columns, NoCube}
 use Rattle.fields.specs.declared.Number.{Number}
 use Rattle.fields.specs.declared.Number.the-variants.{Value, NoNumber}
+use Rattle.names.specs.Names.{namesCount}
 use Rattle.lines.specs.declared.Part.{Part}
 use Rattle.lines.specs.declared.Part.the-variants.{Ins, Outs}
 use Rattle.lines.specs.declared.Kind.the-variants.{Recording, Sheet}
 use Rattle.lines.specs.declared.Key.{Key}
-use Rattle.lines.specs.declared.Key.the-variants.{Size, TypeWord, Count, Stop, NoKey}
+use Rattle.lines.specs.declared.Key.the-variants.{Size, Names, TypeWord, Count, Stop, NoKey}
 use Rattle.lines.specs.declared.View.{View}
 use Rattle.lines.specs.declared.View.the-variants.{Cells, EndMark, Aside}
 use Rattle.lines.specs.declared.Line.{Line}
-use Rattle.lines.specs.declared.Line.the-variants.{Empty, Sized, Typed, Rows, Row, End, Fault}
+use Rattle.lines.specs.declared.Line.the-variants.{Empty, Sized, Named, Typed, Rows, Row, End, Fault}
 
--- `.i`, `.o`, `.type`, `.p`, `.e` or `.end`
+-- `.type`, `.p`, `.e` or `.end`
+unfoldable pub otherKey : List ℕ → Key
+otherKey w =
+    cond (same w (46 ∷ 116 ∷ 121 ∷ 112 ∷ 101 ∷ [])) TypeWord
+    (cond (same w (46 ∷ 112 ∷ [])) Count
+    (cond (same w (46 ∷ 101 ∷ [])) Stop
+    (cond (same w (46 ∷ 101 ∷ 110 ∷ 100 ∷ [])) Stop NoKey)))
+
+-- `.i`, `.o`, `.ilb`, `.ob`, or one of the others
 unfoldable pub keyOf : List ℕ → Key
 keyOf w =
     cond (same w (46 ∷ 105 ∷ [])) (Size Ins)
     (cond (same w (46 ∷ 111 ∷ [])) (Size Outs)
-    (cond (same w (46 ∷ 116 ∷ 121 ∷ 112 ∷ 101 ∷ [])) TypeWord
-    (cond (same w (46 ∷ 112 ∷ [])) Count
-    (cond (same w (46 ∷ 101 ∷ [])) Stop
-    (cond (same w (46 ∷ 101 ∷ 110 ∷ 100 ∷ [])) Stop NoKey)))))
+    (cond (same w (46 ∷ 105 ∷ 108 ∷ 98 ∷ [])) (Names Ins)
+    (cond (same w (46 ∷ 111 ∷ 98 ∷ [])) (Names Outs) (otherKey w))))
 
--- `.i n` or `.o n`, n being 1 to 10
-abbrev pub sizedOf : Part → Number → Line
-sizedOf p NoNumber = Fault
-sizedOf p (Value v) = cond (eqb v 0) Fault (cond (ltb 10 v) Fault (Sized p v))
+-- a number of columns: 1 to 10, else 0
+abbrev pub columnsOf : Number → ℕ
+columnsOf NoNumber = 0
+columnsOf (Value v) = cond (ltb 10 v) 0 v
+
+-- `.i n` or `.o n`
+abbrev pub sizedOf : Part → ℕ → Line
+sizedOf p n = cond (eqb n 0) Fault (Sized p n)
+
+-- `.ilb` or `.ob` with n names
+abbrev pub namedOf : Part → ℕ → Line
+namedOf p n = cond (eqb n 0) Fault (Named p n)
 
 -- `.type fr` stands in a recording, `.type f` in a sheet
 unfoldable pub typedOf : List ℕ → Line
@@ -55,7 +70,8 @@ stopOf (f ∷ fs) = Fault
 
 -- a keyword and the fields after it
 abbrev pub keyLine : Key → List (List ℕ) → Line
-keyLine (Size p) fs = sizedOf p (numberOf (onlyOf fs))
+keyLine (Size p) fs = sizedOf p (columnsOf (numberOf (onlyOf fs)))
+keyLine (Names p) fs = namedOf p (columnsOf (namesCount fs))
 keyLine TypeWord fs = typedOf (onlyOf fs)
 keyLine Count fs = countOf (numberOf (onlyOf fs))
 keyLine Stop fs = stopOf fs
@@ -100,6 +116,7 @@ lineOf s = ofFields (fieldsIn (body s))
 abbrev pub recounted : (ℕ → ℕ) → Line → Line
 recounted f Empty = Empty
 recounted f (Sized p n) = Sized p n
+recounted f (Named p n) = Named p n
 recounted f (Typed t) = Typed t
 recounted f (Rows v) = Rows (f v)
 recounted f (Row m) = Row m
@@ -114,6 +131,7 @@ keepLine l = recounted (λ v. min v most) l
 abbrev pub viewOf : Line → View
 viewOf Empty = Aside
 viewOf (Sized p n) = Aside
+viewOf (Named p n) = Aside
 viewOf (Typed t) = Aside
 viewOf (Rows v) = Aside
 viewOf (Row m) = Cells m

@@ -5,7 +5,7 @@ use fields::Number;
 use fields::Stretch;
 ghost use mathlib.Core.Path.{_≡_};
 ghost use Rattle.fields.specs.Fields.{fieldsIn};
-ghost use Rattle.lines.specs.Lines.{keyOf, rowOf, rowLine, sizedOf, typedOf, countOf, stopOf, keyLine, classOf, lineOf, keepLine, viewOf};
+ghost use Rattle.lines.specs.Lines.{otherKey, keyOf, rowOf, rowLine, columnsOf, sizedOf, namedOf, typedOf, countOf, stopOf, keyLine, classOf, lineOf, keepLine, viewOf};
 
 // What a text is: `.type fr` stands in a recording and `.type f` in a sheet.
 pub enum Kind {
@@ -13,7 +13,7 @@ pub enum Kind {
     Sheet,
 }
 
-// What a header's number is the number of.
+// What a size or a name line belongs to: the inputs or the outputs.
 pub enum Part {
     Ins,
     Outs,
@@ -21,6 +21,7 @@ pub enum Part {
 
 pub enum Key {
     Size(Part),
+    Names(Part),
     TypeWord,
     Count,
     Stop,
@@ -40,6 +41,7 @@ pub struct Masks {
 pub enum Line {
     Empty,
     Sized(Part, u32),
+    Named(Part, u32),
     Typed(Kind),
     Rows(u64),
     Row(Masks),
@@ -54,15 +56,9 @@ pub enum View {
     Aside,
 }
 
-fn key_of(w: &[u8]) -> Key
-    ensures { λ r. ⌜ r ≡ keyOf (now (w .entry)) ⌝ }
+fn other_key(w: &[u8]) -> Key
+    ensures { λ r. ⌜ r ≡ otherKey (now (w .entry)) ⌝ }
 {
-    if fields::same_bytes(w, b".i") {
-        return Key::Size(Part::Ins);
-    }
-    if fields::same_bytes(w, b".o") {
-        return Key::Size(Part::Outs);
-    }
     if fields::same_bytes(w, b".type") {
         return Key::TypeWord;
     }
@@ -76,6 +72,24 @@ fn key_of(w: &[u8]) -> Key
         return Key::Stop;
     }
     Key::NoKey
+}
+
+fn key_of(w: &[u8]) -> Key
+    ensures { λ r. ⌜ r ≡ keyOf (now (w .entry)) ⌝ }
+{
+    if fields::same_bytes(w, b".i") {
+        return Key::Size(Part::Ins);
+    }
+    if fields::same_bytes(w, b".o") {
+        return Key::Size(Part::Outs);
+    }
+    if fields::same_bytes(w, b".ilb") {
+        return Key::Names(Part::Ins);
+    }
+    if fields::same_bytes(w, b".ob") {
+        return Key::Names(Part::Outs);
+    }
+    other_key(w)
 }
 
 fn row_of(a: Cube, b: Cube, width: u32) -> Line
@@ -105,21 +119,38 @@ fn row_of(a: Cube, b: Cube, width: u32) -> Line
     }
 }
 
-// A header whose number is 1 to 10.
-fn sized(p: Part, n: Number) -> Line
-    ensures { λ r. ⌜ r ≡ sizedOf p n ⌝ }
+// A number of columns: 1 to 10, else 0.
+fn columns_of(n: Number) -> u32
+    ensures { λ r. ⌜ r ≡ columnsOf n ⌝ }
 {
     match n {
         Number::Value(v) => {
-            if v == 0 {
-                return Line::Fault;
-            }
             if 10 < v {
-                return Line::Fault;
+                return 0;
             }
-            Line::Sized(p, v as u32)
+            v as u32
         }
-        Number::NoNumber => Line::Fault,
+        Number::NoNumber => 0,
+    }
+}
+
+fn sized(p: Part, n: u32) -> Line
+    ensures { λ r. ⌜ r ≡ sizedOf p n ⌝ }
+{
+    if n == 0 {
+        Line::Fault
+    } else {
+        Line::Sized(p, n)
+    }
+}
+
+fn named(p: Part, n: u32) -> Line
+    ensures { λ r. ⌜ r ≡ namedOf p n ⌝ }
+{
+    if n == 0 {
+        Line::Fault
+    } else {
+        Line::Named(p, n)
     }
 }
 
@@ -161,7 +192,8 @@ fn key_line(k: Key, rest: &[u8]) -> Line
     ensures { λ r. ⌜ r ≡ keepLine (keyLine k (fieldsIn (now (rest .entry)))) ⌝ }
 {
     match k {
-        Key::Size(p) => sized(p, fields::read_number(fields::only(rest))),
+        Key::Size(p) => sized(p, columns_of(fields::read_number(fields::only(rest)))),
+        Key::Names(p) => named(p, columns_of(names::names_count(rest))),
         Key::TypeWord => type_line(fields::only(rest)),
         Key::Count => count_of(fields::read_number(fields::only(rest))),
         Key::Stop => stop_line(rest),
@@ -220,6 +252,7 @@ pub fn view_of(l: Line) -> View
     match l {
         Line::Empty => View::Aside,
         Line::Sized(_, _) => View::Aside,
+        Line::Named(_, _) => View::Aside,
         Line::Typed(_) => View::Aside,
         Line::Rows(_) => View::Aside,
         Line::Row(m) => View::Cells(m),

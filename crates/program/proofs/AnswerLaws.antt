@@ -24,7 +24,7 @@ use Rattle.learning.proofs.Ways.{Opening, two, nine-at-once, opened, Way, six, 
 use Rattle.writing.specs.SheetText.{sheetText}
 use Rattle.writing.specs.Writing.{textLength}
 use Rattle.writing.proofs.TextLaws.{sheet-length}
-use Rattle.program.specs.Program.{refusalLine, ifRoom, tooLong, readingCode, readingPlace, learnedRun, writtenRun, runText, printed, Runs}
+use Rattle.program.specs.Program.{refusalLine, ifRoom, tooLong, readingCode, readingPlace, learnedRun, ownNames, writtenRun, runText, runPrinted, printed, Runs}
 use Rattle.program.proofs.LineLaws.{decimal-most, line-length-is, room-yes}
 use Rattle.program.proofs.RunLaws.{count-within}
 
@@ -108,19 +108,18 @@ line-some c p room h k l =
     let e = line-length-is c p in
     omega (arith, ap length (room-yes room (refusalLine c p) (omega arith)))
 
-text-some : (n bookRoom room : ℕ) → 64 ≤ room → (r : Run) → Placed 24577 bookRoom r → 0 < length (ifRoom room (runText n (writtenRun n room r)))
-unfolding runText writtenRun textLength
-text-some n bookRoom room l (refused c p) h = line-some c p room (h .0) (h .1) l
-text-some n bookRoom room l (going b s x y) h = go (ltb room (length (sheetText n s))) refl
+text-some : (n bookRoom room : ℕ) (t : List ℕ) → 64 ≤ room → (r : Run) → Placed 24577 bookRoom r → 0 < length (runPrinted n t room r)
+unfolding runPrinted runText writtenRun textLength
+text-some n bookRoom room t l (refused c p) h = line-some c p room (h .0) (h .1) l
+text-some n bookRoom room t l (going b s x y) h = go (ltb room (length (sheetText n (ownNames t n) s))) refl
   where
-    go : (t : Bool) → ltb room (length (sheetText n s)) ≡ t → 0 < length (ifRoom room (runText n (cond t (refused 12 0) (going b s x y))))
+    go : (c : Bool) → ltb room (length (sheetText n (ownNames t n) s)) ≡ c → 0 < length (ifRoom room (runText n (ownNames t n) (cond c (refused 12 0) (going b s x y))))
     go true e = line-some 12 0 room (omega arith) (omega arith) l
-    go false e = omega (arith, ap length (room-yes room (sheetText n s) (ltb-false room _ e)), sheet-length n s)
+    go false e = omega (arith, ap length (room-yes room (sheetText n (ownNames t n) s) (ltb-false room _ e)), sheet-length n (ownNames t n) s)
 
-entry-some : (n room c p : ℕ) (u : Run) → c ≤ 13 → p ≤ 24577 → 64 ≤ room → 0 < length (ifRoom room (runText n u)) → 0 < length (ifRoom room (runText n (runIf c u p)))
-unfolding runText
-entry-some n room zero p u h k l w = w
-entry-some n room (suc c) p u h k l w = line-some (suc c) p room h k l
+entry-placed : (m bookRoom c p : ℕ) (u : Run) → c ≤ 13 → p ≤ m → Placed m bookRoom u → Placed m bookRoom (runIf c u p)
+entry-placed m bookRoom zero p u h k w = w
+entry-placed m bookRoom (suc c) p u h k w = (h, k)
 
 -- with room for 1,024 words in the list and the book, and for 64 bytes, the program never prints nothing
 pub run-answers : {t list book sheet out l b s o : List ℕ} {r : ℕ} → Runs t list book sheet out l b s o r
@@ -132,5 +131,4 @@ run-answers {t = t} {list = list} {book = book} {sheet = sheet} {out = out} q h 
     let few : length ts ≤ 24577 = omega (arith, length-take (readAnswer t (length list) .count) (readList t (length list)), count-within t (length list)) in
     let e = entry-small t (length list) in
     let w = learn-placed n (length book) (length sheet) 24577 ts few (omega arith) in
-    rw (q .long) (entry-some n (length out) (readingCode t (length list)) (readingPlace t (length list)) _ (e .0) (e .1) l
-    (text-some n (length book) (length out) l (learnRun n (length book) (length sheet) ts) w))
+    rw (q .long) (text-some n (length book) (length out) t l _ (entry-placed 24577 (length book) (readingCode t (length list)) (readingPlace t (length list)) _ (e .0) (e .1) w))

@@ -11,10 +11,13 @@ use borrow.Author.Tests.{le-ltb, leb-true}
 use Rattle.recording.specs.Reading.{readAnswer, readList}
 use Rattle.learning.specs.Learn.{Run, going, refused, runIf}
 use Rattle.writing.specs.SheetText.{sheetText}
-use Rattle.writing.specs.Writing.{written, countLength, textLength}
+use Rattle.names.proofs.Meaning.{spaced-short}
+use Rattle.naming.proofs.ColumnLaws.{written-good, written-few}
+use Rattle.writing.specs.Writing.{written, countLength, namesLength, textLength}
+use Rattle.writing.proofs.NameLines.{names-length-most}
 use Rattle.writing.proofs.TextLaws.{sheet-length}
 use Rattle.writing.proofs.WriteLaws.{size-small}
-use Rattle.program.specs.Program.{ifRoom, readingCode, readingPlace, learnedRun, writtenRun, runText, printed, Runs}
+use Rattle.program.specs.Program.{ifRoom, readingCode, readingPlace, learnedRun, ownNames, writtenRun, runText, runPrinted, printed, Runs}
 use Rattle.program.proofs.LineLaws.{decimal-most, room-yes}
 use Rattle.program.proofs.LearnLaws.{Writable, learn-writable}
 
@@ -39,38 +42,47 @@ room-within room s = go (leb (length s) room) refl
 
 -- what is printed lies in the output
 pub run-within : {t list book sheet out l b s o : List ℕ} {r : ℕ} → Runs t list book sheet out l b s o r → r ≤ length out
-unfolding printed
+unfolding printed runPrinted
 run-within {out = out} x = rw (x .long) (room-within (length out) _)
 
--- a sheet of at most 1,024 rules fits into the program's 24,576 bytes
-short-text : (n : ℕ) (s : List ℕ) → n ≤ 10 → length s ≤ 1024 → length (sheetText n s) ≤ 24576
+-- ten names of 16 bytes make two lines of 349 bytes together
+names-short : (t : List ℕ) (n : ℕ) → n ≤ 10 → namesLength (ownNames t n) ≤ 349
+names-short t n h =
+    let few = written-few t [] n in
+    let short = spaced-short (ownNames t n) (written-good t [] n) in
+    omega (arith, names-length-most (ownNames t n))
+
+-- a sheet of at most 1,024 rules fits into the program's 24,576 bytes, with the longest names
+short-text : (n : ℕ) (t s : List ℕ) → n ≤ 10 → length s ≤ 1024 → length (sheetText n (ownNames t n) s) ≤ 24576
 unfolding textLength countLength
-short-text n s h k =
+short-text n t s h k =
+    let names = names-short t n h in
     let a = decimal-most 1 n (omega arith) in
     let b = decimal-most 3 (length s) (omega arith) in
     let few : 2 * n + 2 ≤ 22 = omega arith in
     let c : length s * (2 * n + 2) ≤ 1024 * 22 = mul-le-mul k few in
-    omega (arith, sheet-length n s)
+    omega (arith, sheet-length n (ownNames t n) s)
 
 -- 12 is never given where at most 1,024 rules are learned and there is room for 24,576 bytes
-pub never-12 : (n sheetRoom room : ℕ) → sheetRoom ≤ 1024 → 24576 ≤ room → (r : Run) → Writable n sheetRoom r → writtenRun n room r ≡ r
+pub never-12 : (n sheetRoom room : ℕ) (t : List ℕ) → sheetRoom ≤ 1024 → 24576 ≤ room → (r : Run) → Writable n sheetRoom r → writtenRun n (ownNames t n) room r ≡ r
 unfolding writtenRun
-never-12 n sheetRoom room h k (refused c p) w = refl
-never-12 n sheetRoom room h k (going b s x y) w =
-    rw (le-ltb room (length (sheetText n s)) (omega (arith, short-text n s (size-small n (w .0)) (omega (arith, w .2)))))
+never-12 n sheetRoom room t h k (refused c p) w = refl
+never-12 n sheetRoom room t h k (going b s x y) w =
+    rw (le-ltb room (length (sheetText n (ownNames t n) s)) (omega (arith, short-text n t s (size-small n (w .0)) (omega (arith, w .2)))))
 
 -- read and learned, the sheet is what is printed, and in the program's rooms it is printed whole
 pub run-done : {t list book sheet out l b s o : List ℕ} {r : ℕ} → Runs t list book sheet out l b s o r
     → length sheet ≤ 1024 → 24576 ≤ length out → readingCode t (length list) ≡ 0
     → (book₁ sheet₁ : List ℕ) (x y : ℕ) → learnedRun t (length list) (length book) (length sheet) ≡ going book₁ sheet₁ x y
-    → (r ≡ length (sheetText (readAnswer t (length list) .n) sheet₁)) × (o ≡ written out 0 (sheetText (readAnswer t (length list) .n) sheet₁))
-unfolding printed learnedRun runText
+    → (r ≡ length (sheetText (readAnswer t (length list) .n) (ownNames t (readAnswer t (length list) .n)) sheet₁))
+    × (o ≡ written out 0 (sheetText (readAnswer t (length list) .n) (ownNames t (readAnswer t (length list) .n)) sheet₁))
+unfolding printed runPrinted learnedRun runText
 run-done {t = t} {list = list} {book = book} {sheet = sheet} {out = out} q h k e book₁ sheet₁ x y g =
     let n = readAnswer t (length list) .n in
     let w : Writable n (length sheet) (going book₁ sheet₁ x y) = subst (Writable n (length sheet)) g (learn-writable n (length sheet) (length book) (take (readAnswer t (length list) .count) (readList t (length list)))) in
-    let z : printed t (length list) (length book) (length sheet) (length out) ≡ sheetText n sheet₁ =
-    ap (λ (c : ℕ). ifRoom (length out) (runText n (runIf c (writtenRun n (length out) (learnedRun t (length list) (length book) (length sheet))) (readingPlace t (length list))))) e
-    ∙ ap (λ (p : Run). ifRoom (length out) (runText n (writtenRun n (length out) p))) g
-    ∙ ap (λ (p : Run). ifRoom (length out) (runText n p)) (never-12 n (length sheet) (length out) h k (going book₁ sheet₁ x y) w)
-    ∙ room-yes (length out) (sheetText n sheet₁) (omega (arith, short-text n sheet₁ (size-small n (w .0)) (omega (arith, w .2)))) in
+    let z : printed t (length list) (length book) (length sheet) (length out) ≡ sheetText n (ownNames t n) sheet₁ =
+    ap (λ (c : ℕ). runPrinted n t (length out) (runIf c (learnedRun t (length list) (length book) (length sheet)) (readingPlace t (length list)))) e
+    ∙ ap (λ (p : Run). runPrinted n t (length out) p) g
+    ∙ ap (λ (p : Run). ifRoom (length out) (runText n (ownNames t n) p)) (never-12 n (length sheet) (length out) t h k (going book₁ sheet₁ x y) w)
+    ∙ room-yes (length out) (sheetText n (ownNames t n) sheet₁) (omega (arith, short-text n t sheet₁ (size-small n (w .0)) (omega (arith, w .2)))) in
     (q .long ∙ ap length z, q .bytes ∙ ap (written out 0) z)

@@ -1,7 +1,7 @@
 -- Laws of the ways through the program: what each return leaves is what its contract says.
 use Prim.Native.Nat.{ℕ, zero, suc, _-_, _≤_, _<_}
 use mathlib.Core.Path.{_≡_, refl, sym, _∙_, ap, ap₂}
-use mathlib.Core.List.{List}
+use mathlib.Core.List.{List, []}
 use mathlib.Core.Bool.{Bool, true, false, cond}
 use native.Mathlib.Omega.{arith}
 use lib.Dec.{leb, ltb}
@@ -22,7 +22,7 @@ use Rattle.learning.specs.Learn.{Run, going, refused, learnRun, runAnswer, runS
 use Rattle.writing.specs.SheetText.{sheetText}
 use Rattle.writing.specs.Writing.{written, Put, writeCode, Writes}
 use Rattle.writing.specs.declared.WriteAnswer.{WriteAnswer}
-use Rattle.program.specs.Program.{refusalLine, ifRoom, tooLong, readingCode, readingPlace, learnedRun, writtenRun, runText, printed, Runs, Sheets}
+use Rattle.program.specs.Program.{refusalLine, ifRoom, tooLong, readingCode, readingPlace, learnedRun, ownNames, writtenRun, runText, runPrinted, printed, Runs, Sheets}
 use Rattle.program.proofs.LineLaws.{room-yes}
 use Rattle.program.proofs.LearnLaws.{Writable, learn-writable}
 use Rattle.answers.proofs.Laws.{if-refused}
@@ -30,47 +30,47 @@ use Rattle.learning.proofs.Words.{run-refused}
 
 -- ---- writing what was learned
 
-module _ (n sheetRoom room : ℕ) where
+module _ (n : ℕ) (names : List (List ℕ)) (sheetRoom room : ℕ) where
   -- a learned sheet is refused with 12 only
   pub write-code-is : (b s : List ℕ) (x y : ℕ) → Writable n sheetRoom (going b s x y)
-      → writeCode n (filled sheetRoom s) (length s) room ≡ refuse (ltb room (length (sheetText n s))) 12 0
+      → writeCode n names (filled sheetRoom s) (length s) room ≡ refuse (ltb room (length (sheetText n names s))) 12 0
   unfolding writeCode filled
   write-code-is b s x y h =
       let l : length s ≤ length (filled sheetRoom s) = omega (arith, length-append s (replicate (sheetRoom - length s) 0)) in
       let k : take (length s) (filled sheetRoom s) ≡ s = take-at s _ (length s) refl in
       rw (h .0, le-ltb (length (filled sheetRoom s)) (length s) l, k, h .1)
 
-  refused-text : (r : Run) → (runAnswer r .code ≡ 0 → ⊥) → runText n (writtenRun n room r) ≡ refusalLine (runAnswer r .code) (runAnswer r .place)
+  refused-text : (r : Run) → (runAnswer r .code ≡ 0 → ⊥) → runText n names (writtenRun n names room r) ≡ refusalLine (runAnswer r .code) (runAnswer r .place)
   unfolding runAnswer runText writtenRun
   refused-text (going b s x y) f = absurd (f refl)
   refused-text (refused c p) f = refl
 
-  unwritten-text : (r : Run) → Writable n sheetRoom r → runAnswer r .code ≡ 0 → (code : ℕ) → code ≡ writeCode n (runSheet sheetRoom r) (runAnswer r .«sheet_count») room
-      → (code ≡ 0 → ⊥) → runText n (writtenRun n room r) ≡ refusalLine code 0
+  unwritten-text : (r : Run) → Writable n sheetRoom r → runAnswer r .code ≡ 0 → (code : ℕ) → code ≡ writeCode n names (runSheet sheetRoom r) (runAnswer r .«sheet_count») room
+      → (code ≡ 0 → ⊥) → runText n names (writtenRun n names room r) ≡ refusalLine code 0
   unfolding runAnswer runText runSheet writtenRun
   unwritten-text (refused c p) h e code q f = absurd (omega (arith, h, e))
-  unwritten-text (going b s x y) h e code q f = go (ltb room (length (sheetText n s))) (q ∙ write-code-is b s x y h)
+  unwritten-text (going b s x y) h e code q f = go (ltb room (length (sheetText n names s))) (q ∙ write-code-is b s x y h)
     where
-      go : (t : Bool) → code ≡ refuse t 12 0 → runText n (cond t (refused 12 0) (going b s x y)) ≡ refusalLine code 0
+      go : (t : Bool) → code ≡ refuse t 12 0 → runText n names (cond t (refused 12 0) (going b s x y)) ≡ refusalLine code 0
       go true z = ap (λ (k : ℕ). refusalLine k 0) (sym z)
       go false z = absurd (f z)
 
-  written-text : (r : Run) → Writable n sheetRoom r → runAnswer r .code ≡ 0 → (code : ℕ) → code ≡ writeCode n (runSheet sheetRoom r) (runAnswer r .«sheet_count») room
-      → code ≡ 0 → ifRoom room (runText n (writtenRun n room r)) ≡ sheetText n (take (runAnswer r .«sheet_count») (runSheet sheetRoom r))
+  written-text : (r : Run) → Writable n sheetRoom r → runAnswer r .code ≡ 0 → (code : ℕ) → code ≡ writeCode n names (runSheet sheetRoom r) (runAnswer r .«sheet_count») room
+      → code ≡ 0 → ifRoom room (runText n names (writtenRun n names room r)) ≡ sheetText n names (take (runAnswer r .«sheet_count») (runSheet sheetRoom r))
   unfolding runAnswer runText runSheet writtenRun filled
   written-text (refused c p) h e code q f = absurd (omega (arith, h, e))
-  written-text (going b s x y) h e code q f = go (ltb room (length (sheetText n s))) refl (q ∙ write-code-is b s x y h)
+  written-text (going b s x y) h e code q f = go (ltb room (length (sheetText n names s))) refl (q ∙ write-code-is b s x y h)
     where
-      go : (t : Bool) → ltb room (length (sheetText n s)) ≡ t → code ≡ refuse t 12 0
-          → ifRoom room (runText n (cond t (refused 12 0) (going b s x y))) ≡ sheetText n (take (length s) (filled sheetRoom s))
+      go : (t : Bool) → ltb room (length (sheetText n names s)) ≡ t → code ≡ refuse t 12 0
+          → ifRoom room (runText n names (cond t (refused 12 0) (going b s x y))) ≡ sheetText n names (take (length s) (filled sheetRoom s))
       go true i z = absurd (omega (arith, z, f))
-      go false i z = room-yes room (sheetText n s) (ltb-false room _ i) ∙ ap (sheetText n) (sym (take-at s _ (length s) refl))
+      go false i z = room-yes room (sheetText n names s) (ltb-false room _ i) ∙ ap (sheetText n names) (sym (take-at s _ (length s) refl))
 
-module _ (n : ℕ) (ts book sheet out book′ sheet′ : List ℕ) (a : Answer) (l : Learned n ts (length book) (length sheet) book′ sheet′ a) where
+module _ (n : ℕ) (t ts book sheet out book′ sheet′ : List ℕ) (a : Answer) (l : Learned n ts (length book) (length sheet) book′ sheet′ a) where
   abbrev run : Run
   run = learnRun n (length book) (length sheet) ts
 
-  as-sheets : (s out′ : List ℕ) (r : ℕ) → ifRoom (length out) (runText n (writtenRun n (length out) run)) ≡ s → Put out 0 s out′ r → Sheets n ts book sheet out book′ sheet′ out′ r
+  as-sheets : (s out′ : List ℕ) (r : ℕ) → runPrinted n t (length out) run ≡ s → Put out 0 s out′ r → Sheets n t ts book sheet out book′ sheet′ out′ r
   as-sheets s out′ r e p = record {
     long = p .behind ∙ omega (arith, ap length e);
     bytes = p .bytes ∙ ap (written out 0) (sym e);
@@ -79,33 +79,36 @@ module _ (n : ℕ) (ts book sheet out book′ sheet′ : List ℕ) (a : Answer) 
   }
 
   pub learned-refused : (a .code ≡ 0 → ⊥) → (out′ : List ℕ) (r : ℕ) → Put out 0 (ifRoom (length out) (refusalLine (a .code) (a .place))) out′ r
-      → Sheets n ts book sheet out book′ sheet′ out′ r
+      → Sheets n t ts book sheet out book′ sheet′ out′ r
+  unfolding runPrinted
   learned-refused f out′ r p =
-      as-sheets _ out′ r (ap (ifRoom (length out)) (refused-text n (length sheet) (length out) run (λ e. f (ap (λ (x : Answer). x .code) (l .answer) ∙ e)) ∙ rw (← l .answer))) p
+      as-sheets _ out′ r (ap (ifRoom (length out)) (refused-text n (ownNames t n) (length sheet) (length out) run (λ e. f (ap (λ (x : Answer). x .code) (l .answer) ∙ e)) ∙ rw (← l .answer))) p
 
-  module _ (e : a .code ≡ 0) (w : WriteAnswer) (out₁ : List ℕ) (h : Writes n sheet′ (a .«sheet_count») out out₁ w) where
+  module _ (e : a .code ≡ 0) (w : WriteAnswer) (out₁ : List ℕ) (h : Writes n sheet′ (a .«sheet_count») t [] out out₁ w) where
     abbrev code : ℕ
-    code = writeCode n sheet′ (a .«sheet_count») (length out)
+    code = writeCode n (ownNames t n) sheet′ (a .«sheet_count») (length out)
 
-    code-is : code ≡ writeCode n (runSheet (length sheet) run) (runAnswer run .«sheet_count») (length out)
+    code-is : code ≡ writeCode n (ownNames t n) (runSheet (length sheet) run) (runAnswer run .«sheet_count») (length out)
     code-is = rw (← l .answer, ← l .sheet-words)
 
     done-is : runAnswer run .code ≡ 0
     done-is = rw (← l .answer) e
 
     pub written-refused : (w .answer .code ≡ 0 → ⊥) → (out₂ : List ℕ) (r : ℕ) → Put out₁ 0 (ifRoom (length out₁) (refusalLine (w .answer .code) 0)) out₂ r
-        → Sheets n ts book sheet out book′ sheet′ out₂ r
+        → Sheets n t ts book sheet out book′ sheet′ out₂ r
+    unfolding runPrinted
     written-refused f out₂ r p =
         let wc : w .answer .code ≡ code = ap (λ (x : WriteAnswer). x .answer .code) (h .answer) in
         let same : out₁ ≡ out = h .bytes ∙ if-refused code _ _ (λ z. f (wc ∙ z)) in
-        as-sheets _ out₂ r (ap (ifRoom (length out)) (unwritten-text n (length sheet) (length out) run (learn-writable n (length sheet) (length book) ts) done-is code code-is (λ z. f (wc ∙ z))))
+        as-sheets _ out₂ r (ap (ifRoom (length out)) (unwritten-text n (ownNames t n) (length sheet) (length out) run (learn-writable n (length sheet) (length book) ts) done-is code code-is (λ z. f (wc ∙ z))))
         (rw (← wc, ← same) p)
 
-    pub written-done : w .answer .code ≡ 0 → Sheets n ts book sheet out book′ sheet′ out₁ (w .length)
+    pub written-done : w .answer .code ≡ 0 → Sheets n t ts book sheet out book′ sheet′ out₁ (w .length)
+    unfolding runPrinted
     written-done z =
         let z′ : code ≡ 0 = sym (ap (λ (x : WriteAnswer). x .answer .code) (h .answer)) ∙ z in
-        as-sheets (sheetText n (take (a .«sheet_count») sheet′)) out₁ (w .length)
-        (written-text n (length sheet) (length out) run (learn-writable n (length sheet) (length book) ts) done-is code code-is z′ ∙ rw (← l .answer, ← l .sheet-words))
+        as-sheets (sheetText n (ownNames t n) (take (a .«sheet_count») sheet′)) out₁ (w .length)
+        (written-text n (ownNames t n) (length sheet) (length out) run (learn-writable n (length sheet) (length book) ts) done-is code code-is z′ ∙ rw (← l .answer, ← l .sheet-words))
         (record {
           bytes = h .bytes ∙ rw z′;
           behind = ap (λ (x : WriteAnswer). x .length) (h .answer) ∙ rw z′ (omega arith);
@@ -134,7 +137,7 @@ read-count t before after a h = rw (h .answer) (count-within t (length before))
 
 module _ (t list book sheet out : List ℕ) where
   pub run-too-long : 24576 < length t → (out′ : List ℕ) (r : ℕ) → Put out 0 (ifRoom (length out) (refusalLine 13 0)) out′ r → Runs t list book sheet out list book sheet out′ r
-  unfolding readingCode readingPlace printed runText
+  unfolding readingCode readingPlace printed runPrinted writtenRun runText
   run-too-long h out′ r p =
       let y = lt-ltb 24576 (length t) h in
       record {
@@ -161,14 +164,14 @@ module _ (t list book sheet out : List ℕ) where
     list-read = k .list ∙ sym (ap (λ (b : Bool). cond b list (readList t (length list))) short)
 
     abbrev later : Run
-    later = writtenRun (readAnswer t (length list) .n) (length out) (learnedRun t (length list) (length book) (length sheet))
+    later = learnedRun t (length list) (length book) (length sheet)
 
     pub run-unread : (a .code ≡ 0 → ⊥) → (out′ : List ℕ) (r : ℕ) → Put out 0 (ifRoom (length out) (refusalLine (a .code) (a .place))) out′ r
         → Runs t list book sheet out list′ book sheet out′ r
-    unfolding printed runText
+    unfolding printed runPrinted writtenRun runText
     run-unread f out′ r p =
         let e : printed t (length list) (length book) (length sheet) (length out) ≡ ifRoom (length out) (refusalLine (a .code) (a .place)) =
-        ap (λ (q : Run). ifRoom (length out) (runText (readAnswer t (length list) .n) q)) (ap₂ (λ (c p : ℕ). runIf c later p) code-read place-read ∙ run-refused (a .code) later (a .place) f) in
+        ap (λ (q : Run). runPrinted (readAnswer t (length list) .n) t (length out) q) (ap₂ (λ (c p : ℕ). runIf c later p) code-read place-read ∙ run-refused (a .code) later (a .place) f) in
         record {
           long = p .behind ∙ omega (arith, ap length e);
           bytes = p .bytes ∙ ap (written out 0) (sym e);
@@ -177,7 +180,7 @@ module _ (t list book sheet out : List ℕ) where
           sheet-words = rw code-read (sym (if-refused (a .code) _ sheet f));
         }
 
-    pub run-learned : a .code ≡ 0 → (book′ sheet′ out′ : List ℕ) (r : ℕ) → Sheets (a .n) (take (a .count) list′) book sheet out book′ sheet′ out′ r
+    pub run-learned : a .code ≡ 0 → (book′ sheet′ out′ : List ℕ) (r : ℕ) → Sheets (a .n) t (take (a .count) list′) book sheet out book′ sheet′ out′ r
         → Runs t list book sheet out list′ book′ sheet′ out′ r
     unfolding printed learnedRun
     run-learned z book′ sheet′ out′ r s =

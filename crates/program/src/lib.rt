@@ -24,15 +24,22 @@ fn put_refusal(code: u32, place: usize, out: &mut [u8]) -> usize
     writing::put_header(out, b, b" at ", place)
 }
 
-// Learns the words, and writes their sheet or the refusal.
-fn put_learned(n: u32, words: &[u32], book: &mut [u32], sheet: &mut [u32], out: &mut [u8]) -> usize
-    ensures { λ r. ⌜ Sheets n (now (words .entry)) (now (book .entry)) (now (sheet .entry)) (now (out .entry)) (now (book .exit)) (now (sheet .exit)) (now (out .exit)) r ⌝ }
+// Learns the words of a text, and writes their sheet, with the text's own names, or the refusal.
+fn put_learned(
+    n: u32,
+    text: &[u8],
+    words: &[u32],
+    book: &mut [u32],
+    sheet: &mut [u32],
+    out: &mut [u8],
+) -> usize
+    ensures { λ r. ⌜ Sheets n (now (text .entry)) (now (words .entry)) (now (book .entry)) (now (sheet .entry)) (now (out .entry)) (now (book .exit)) (now (sheet .exit)) (now (out .exit)) r ⌝ }
 {
     let learned = learning::learn(n, words, book, sheet);
     if learned.code != 0 {
         return put_refusal(learned.code, learned.place, out);
     }
-    let w = writing::write_sheet(n, sheet, learned.sheet_count, out);
+    let w = writing::write_sheet(n, sheet, learned.sheet_count, text, b"", out);
     let answer = w.answer;
     if answer.code != 0 {
         return put_refusal(answer.code, 0, out);
@@ -59,5 +66,5 @@ pub fn run(
     }
     let n = read.n;
     let count = read.count;
-    put_learned(n, &list[..count], book, sheet, output)
+    put_learned(n, input, &list[..count], book, sheet, output)
 }

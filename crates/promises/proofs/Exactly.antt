@@ -121,7 +121,7 @@ module _ {t list book sheet out l b s out′ : List ℕ} {r : ℕ} (rooms : Room
   refusal-exactly c p = (λ f. go f (text-to-text rooms runs), λ f. refusal-printed c p f)
     where
       go : Prints out out′ r (refusalLine c p) → Printed t out out′ r → Refused t c p
-      go f (a-sheet q) = absurd (line-not-sheet c p (q .n) (q .s) (sym (f .text) ∙ q .prints .text))
+      go f (a-sheet q) = absurd (line-not-sheet c p (q .n) _ (q .s) (sym (f .text) ∙ q .prints .text))
       go f (a-refusal q) =
           let k = line-unique (q .code) (q .place) c p (sym (q .prints .text) ∙ f .text) in
           subst (λ (z : ℕ). Refused t c z) (k .1) (subst (λ (z : ℕ). Refused t z (q .place)) (k .0) (q .refused))

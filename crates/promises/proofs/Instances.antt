@@ -1,8 +1,8 @@
--- One instance of each premise of the theorems here: two short recordings with the same rows, one that contradicts itself, one too long, one too large for the list, and the empty text.
+-- One instance of each premise of the theorems here: two short recordings with the same rows and names, one that contradicts itself, one too long, one too large for the list, and the empty text.
 use mathlib.Core.Path.{_≡_, refl, sym, ap, _∙_, subst}
 use mathlib.Core.Bool.{cond}
 use mathlib.Core.List.{List, [], _∷_, List·Memᴰ as Mem, List·Memᴰ·head as here, List·Memᴰ·tail as there, List·Memᴰ·not-nil, List·Memᴰ·eq-of-singleton}
-use Prim.Native.Nat.{ℕ, _≤_, _<_}
+use Prim.Native.Nat.{ℕ, zero, suc, _≤_, _<_}
 use native.Mathlib.Omega.{arith}
 use lib.ListN.{length, take, replicate, length-replicate}
 use Rattle.table.proofs.Counting.{parted}
@@ -17,11 +17,14 @@ use Rattle.fields.specs.Bytes.{markOf, run, same}
 use Rattle.fields.specs.Texts.{linesOf, body}
 use Rattle.fields.specs.Values.{cubeOf, digits, numberOf}
 use Rattle.fields.specs.Fields.{fieldsFrom, fieldsIn}
-use Rattle.lines.specs.Lines.{keyOf, typedOf, rowLine, classOf, ofFields, lineOf}
+use Rattle.names.specs.Names.{nameByte, allName, nameOk, holds, goodNames, countFrom, namesCount, sameFields, namesIn}
+use Rattle.names.specs.Spans.{startAt, endAt, spanAt, fieldAt, nameSpan}
+use Rattle.naming.specs.Naming.{homeFrom, homeOf, namingOf, sourceOf, spotOf, nameOf}
+use Rattle.lines.specs.Lines.{otherKey, keyOf, typedOf, rowLine, classOf, ofFields, lineOf}
 use Rattle.headers.specs.Layouts.{recording}
 use Rattle.headers.specs.Accepted.{Accepted}
 use Rattle.headers.specs.Places.{Place}
-use Rattle.headers.specs.Headers.{lacks, lacksNone, readyOf, rowFits, openOf, fitsOf, headerAllowed, endAllowed, rowAllowed, allowedAt, nextAt}
+use Rattle.headers.specs.Headers.{lacks, lacksNone, readyOf, rowFits, openOf, fitsOf, headerAllowed, endAllowed, rowAllowed, named, allowedBy, allowedAt, nextAt}
 use Rattle.headers.specs.Verdicts.{finishOf, judgeLines, judgeOf}
 use Rattle.headers.specs.declared.Verdict.the-variants.{Good, Bad}
 use Rattle.headers.proofs.Accepting.{good-iff-text}
@@ -32,22 +35,22 @@ use Rattle.learning.specs.Learn.{runBook, runSheet}
 use Rattle.writing.specs.Writing.{written}
 use Rattle.program.specs.Program.{tooLong, readingCode, learnedRun, printed, Runs}
 use Rattle.handover.specs.Learning.{Learnable, contradicted as stopped, LearnRefused, at-word}
-use Rattle.promises.specs.Printed.{Recorded, SameRows, Refused, too-long, faulty, too-many, contradicted, SheetPrinted, RefusalPrinted, Rooms}
+use Rattle.promises.specs.Printed.{Recorded, SameRows, SameNames, Refused, too-long, faulty, too-many, contradicted, SheetPrinted, RefusalPrinted, Rooms}
 use Rattle.promises.proofs.Learning.{words-learnable}
 use Rattle.promises.proofs.Exactly.{sheet-printed, refusal-printed}
 use Rattle.promises.proofs.OneText.{one-text}
 
 -- ---- texts
 
--- the rows "1 0" and "0 0":
---   .i 1⏎.o 1⏎1 0⏎0 0⏎.e⏎
+-- the rows "1 0" and "0 0" of a relay K:
+--   .i 1⏎.o 1⏎.ilb K⏎.ob K⏎1 0⏎0 0⏎.e⏎
 abbrev two-rows : List ℕ
-two-rows = 46 ∷ 105 ∷ 32 ∷ 49 ∷ 10 ∷ 46 ∷ 111 ∷ 32 ∷ 49 ∷ 10 ∷ 49 ∷ 32 ∷ 48 ∷ 10 ∷ 48 ∷ 32 ∷ 48 ∷ 10 ∷ 46 ∷ 101 ∷ 10 ∷ []
+two-rows = 46 ∷ 105 ∷ 32 ∷ 49 ∷ 10 ∷ 46 ∷ 111 ∷ 32 ∷ 49 ∷ 10 ∷ 46 ∷ 105 ∷ 108 ∷ 98 ∷ 32 ∷ 75 ∷ 10 ∷ 46 ∷ 111 ∷ 98 ∷ 32 ∷ 75 ∷ 10 ∷ 49 ∷ 32 ∷ 48 ∷ 10 ∷ 48 ∷ 32 ∷ 48 ∷ 10 ∷ 46 ∷ 101 ∷ 10 ∷ []
 
--- the same rows, with a dash, a comment and a repeat, and laid out in another way:
---   .o 1⏎.i 1⏎- 0 # both⏎0 0⏎.end
+-- the same rows and names, with a dash, comments and a repeat, and laid out in another way:
+--   .ob K⏎.o 1⏎.i 1⏎.ilb K # both⏎- 0 # both⏎0 0⏎.end
 abbrev one-dash : List ℕ
-one-dash = 46 ∷ 111 ∷ 32 ∷ 49 ∷ 10 ∷ 46 ∷ 105 ∷ 32 ∷ 49 ∷ 10 ∷ 45 ∷ 32 ∷ 48 ∷ 32 ∷ 35 ∷ 32 ∷ 98 ∷ 111 ∷ 116 ∷ 104 ∷ 10 ∷ 48 ∷ 32 ∷ 48 ∷ 10 ∷ 46 ∷ 101 ∷ 110 ∷ 100 ∷ []
+one-dash = 46 ∷ 111 ∷ 98 ∷ 32 ∷ 75 ∷ 10 ∷ 46 ∷ 111 ∷ 32 ∷ 49 ∷ 10 ∷ 46 ∷ 105 ∷ 32 ∷ 49 ∷ 10 ∷ 46 ∷ 105 ∷ 108 ∷ 98 ∷ 32 ∷ 75 ∷ 32 ∷ 35 ∷ 32 ∷ 98 ∷ 111 ∷ 116 ∷ 104 ∷ 10 ∷ 45 ∷ 32 ∷ 48 ∷ 32 ∷ 35 ∷ 32 ∷ 98 ∷ 111 ∷ 116 ∷ 104 ∷ 10 ∷ 48 ∷ 32 ∷ 48 ∷ 10 ∷ 46 ∷ 101 ∷ 110 ∷ 100 ∷ []
 
 -- K4 as a recording: "0 0" and then "0 1":
 --   .i 1⏎.o 1⏎0 0⏎0 1⏎.e⏎
@@ -72,7 +75,7 @@ record Texts : Type 0 where
   empty-bad : Place recording [] 1
 
 texts : Texts
-unfolding on relays allOn allOff transitionWord markOf run same linesOf body cubeOf digits numberOf fieldsFrom fieldsIn keyOf typedOf rowLine classOf ofFields lineOf lacks lacksNone readyOf rowFits openOf fitsOf headerAllowed endAllowed rowAllowed allowedAt nextAt finishOf judgeLines judgeOf matchesOf wordsBelow linesWords textWords
+unfolding on relays allOn allOff transitionWord markOf run same linesOf body cubeOf digits numberOf fieldsFrom fieldsIn otherKey keyOf typedOf rowLine classOf ofFields lineOf nameByte allName nameOk holds goodNames countFrom namesCount sameFields namesIn lacks lacksNone readyOf rowFits openOf fitsOf headerAllowed endAllowed rowAllowed named allowedBy allowedAt nextAt finishOf judgeLines judgeOf matchesOf wordsBelow linesWords textWords
 texts = record {
   two-rows-words = refl;
   one-dash-words = refl;
@@ -131,6 +134,15 @@ same-rows = record {
   back = λ w m. subst (λ (z : List ℕ). Mem w z) (sym (texts .two-rows-words)) (back w (subst (λ (z : List ℕ). Mem w z) (texts .one-dash-words) m));
 }
 
+-- and the same name
+name-same : (v : ℕ) → v < 1 → nameOf two-rows [] v ≡ nameOf one-dash [] v
+unfolding markOf run same linesOf body cubeOf digits numberOf fieldsFrom fieldsIn otherKey keyOf typedOf rowLine classOf ofFields lineOf nameByte allName nameOk holds goodNames countFrom namesCount sameFields namesIn startAt endAt spanAt fieldAt nameSpan lacks lacksNone readyOf rowFits openOf fitsOf headerAllowed endAllowed rowAllowed named allowedBy allowedAt nextAt finishOf judgeLines judgeOf homeFrom homeOf namingOf sourceOf spotOf nameOf
+name-same zero l = refl
+name-same (suc v) l = absurd (omega arith)
+
+pub same-names : SameNames 1 two-rows one-dash
+same-names = record { same = name-same }
+
 -- one-dash is a recording of one relay too
 pub one-dash-recorded : Recorded one-dash 1 (0 ∷ 1024 ∷ 0 ∷ [])
 one-dash-recorded = record { short = omega arith; good = texts .one-dash-good; words = sym (texts .one-dash-words); listed = omega arith }
@@ -181,8 +193,10 @@ one-dash-printed = sheet-printed rooms (runs one-dash) 1 _ one-dash-recorded one
 pub one-text-printed : (length (answer two-rows) ≡ length (answer one-dash))
     × (take (length (answer two-rows)) (written output 0 (answer two-rows)) ≡ take (length (answer one-dash)) (written output 0 (answer one-dash)))
 one-text-printed =
+    let n = one-size recording two-rows (two-rows-printed .n) 1 (two-rows-printed .recorded .good) (texts .two-rows-good) in
     one-text two-rows-printed one-dash-printed
-    (one-size recording two-rows (two-rows-printed .n) 1 (two-rows-printed .recorded .good) (texts .two-rows-good) ∙ sym (one-size recording one-dash (one-dash-printed .n) 1 (one-dash-printed .recorded .good) (texts .one-dash-good)))
+    (n ∙ sym (one-size recording one-dash (one-dash-printed .n) 1 (one-dash-printed .recorded .good) (texts .one-dash-good)))
+    (subst (λ (k : ℕ). SameNames k two-rows one-dash) (sym n) same-names)
     same-rows
 
 -- ---- refusals

@@ -34,6 +34,7 @@ use Rattle.headers.specs.declared.Verdict.the-variants.{Good, Bad}
 use Rattle.recording.specs.Rows.{textWords}
 use Rattle.recording.specs.Reading.{refusal, answerFor, readAnswer, Reads}
 use Rattle.recording.specs.declared.ReadAnswer.{ReadAnswer}
+use Rattle.naming.specs.Columns.{namesFor}
 use Rattle.writing.specs.SheetText.{sheetText}
 use Rattle.writing.specs.Writing.{writeCode, Writes}
 use Rattle.writing.specs.declared.WriteAnswer.{WriteAnswer}
@@ -366,20 +367,20 @@ read-eight {t = t} {list = list} q =
       λ k. ladder .1 ((k .0 .0, good-iff-text recording t (k .0 .0) .1 (k .0 .1)), k .1),
     )
 
-module _ (n : ℕ) (sheet : List ℕ) (count room : ℕ) where
+module _ (n : ℕ) (names : List (List ℕ)) (sheet : List ℕ) (count room : ℕ) where
   abbrev s : List ℕ
   s = take count sheet
 
   abbrev twelve : ℕ
-  twelve = refuse (ltb room (length (sheetText n s))) 12 0
+  twelve = refuse (ltb room (length (sheetText n names s))) 12 0
 
-  write-ladder : (writeCode n sheet count room ≡ 12) ↔ ((panelSize n ≡ true) × (count ≤ length sheet) × (goodSheet n s ≡ true) × (room < length (sheetText n s)))
+  write-ladder : (writeCode n names sheet count room ≡ 12) ↔ ((panelSize n ≡ true) × (count ≤ length sheet) × (goodSheet n s ≡ true) × (room < length (sheetText n names s)))
   unfolding writeCode
   write-ladder =
       let two = rung (not (panelSize n)) 2 (refuse (ltb (length sheet) count) 3 (refuse (not (goodSheet n s)) 5 twelve)) 12 (λ q. omega (arith, q)) in
       let three = rung (ltb (length sheet) count) 3 (refuse (not (goodSheet n s)) 5 twelve) 12 (λ q. omega (arith, q)) in
       let five = rung (not (goodSheet n s)) 5 twelve 12 (λ q. omega (arith, q)) in
-      let full = exceeded room (length (sheetText n s)) 12 0 (λ q. omega (arith, q)) in (
+      let full = exceeded room (length (sheetText n names s)) 12 0 (λ q. omega (arith, q)) in (
         λ e.
             let f = two .0 e in
             let g = three .0 (f .1) in
@@ -388,8 +389,8 @@ module _ (n : ℕ) (sheet : List ℕ) (count room : ℕ) where
         λ k. two .1 (ap not (k .0), three .1 (le-ltb (length sheet) count (k .1), five .1 (ap not (k .2), full .1 (k .3)))),
       )
 
-pub write-twelve : {n : ℕ} {sheet : List ℕ} {count : ℕ} {out out′ : List ℕ} {r : WriteAnswer} → Writes n sheet count out out′ r → WriteTwelve n sheet count out r
-write-twelve {n = n} {sheet = sheet} {count = count} {out = out} q = coded (ap (λ (a : WriteAnswer). a .answer .code) (q .answer)) (write-ladder n sheet count (length out))
+pub write-twelve : {n : ℕ} {sheet : List ℕ} {count : ℕ} {out out′ : List ℕ} {r : WriteAnswer} (panel maker : List ℕ) → Writes n sheet count panel maker out out′ r → WriteTwelve n sheet count panel maker out r
+write-twelve {n = n} {sheet = sheet} {count = count} {out = out} panel maker q = coded (ap (λ (a : WriteAnswer). a .answer .code) (q .answer)) (write-ladder n (namesFor panel maker n) sheet count (length out))
 
 -- ---- the program in its rooms
 

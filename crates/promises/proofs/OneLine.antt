@@ -33,6 +33,6 @@ line-unique c p d q e =
     let digits = append-cancel-right (decimal p) (decimal q) (10 ∷ []) (append-cancel-left (97 ∷ 116 ∷ 32 ∷ []) _ _ (k .1)) in
     (decimal-unique c d (k .0), decimal-unique p q digits)
 
-pub line-not-sheet : (c p n : ℕ) (s : List ℕ) → refusalLine c p ≡ sheetText n s → ⊥
+pub line-not-sheet : (c p n : ℕ) (names : List (List ℕ)) (s : List ℕ) → refusalLine c p ≡ sheetText n names s → ⊥
 unfolding refusalLine sheetText tableText headerText
-line-not-sheet c p n s e = omega (arith, head-eq-of-cons-eq e)
+line-not-sheet c p n names s e = omega (arith, head-eq-of-cons-eq e)

@@ -3,7 +3,7 @@ use mathlib.Core.Path.{_≡_, refl, sym, ap, _∙_, subst}
 use mathlib.Core.Logic.{_⊎_, inl, inr}
 use mathlib.Core.Bool.{Bool, true, false, cond}
 use mathlib.Core.List.{List, [], List·Memᴰ as Mem}
-use Prim.Native.Nat.{ℕ, _+_, _-_, _≤_, _<_}
+use Prim.Native.Nat.{ℕ, zero, suc, _+_, _-_, _≤_, _<_}
 use native.Mathlib.Omega.{arith}
 use lib.Dec.{leb}
 use lib.ListN.{length, take, drop, replicate}
@@ -25,8 +25,8 @@ use Rattle.recording.proofs.WordLaws.{read-size, read-valid}
 use Rattle.learning.specs.Learn.{Run, going, refused, learnRun, runAnswer, runBook, runSheet, runIf}
 use Rattle.writing.specs.SheetText.{sheetText}
 use Rattle.writing.specs.Writing.{written}
-use Rattle.program.specs.Program.{refusalLine, ifRoom, tooLong, readingCode, readingPlace, learnedRun, runText, printed, Runs}
-use Rattle.program.proofs.LearnLaws.{learn-writable}
+use Rattle.program.specs.Program.{refusalLine, ifRoom, tooLong, readingCode, readingPlace, learnedRun, ownNames, writtenRun, runText, runPrinted, printed, Runs}
+use Rattle.program.proofs.LearnLaws.{Writable, learn-writable}
 use Rattle.program.proofs.Promises.{never-12}
 use Rattle.program.proofs.AnswerLaws.{run-answers}
 use Rattle.handover.specs.Demands.{Left, pieceOf, sheetUsed, Complete}
@@ -129,18 +129,25 @@ module _ (t : List ℕ) where
       go false (Bad k) e f = faulty k (ltb-false 24576 (length t) e) (bad-iff-place recording t k .0 f)
       go false (Good n) e f = fit n (ltb-false 24576 (length t) e) (good-iff-text recording t n .0 f) (leb (length (textWords t)) 1024) refl
 
+  -- a refusal before learning has a code
+  entry-writable : (n room c p : ℕ) (u : Run) → Writable n room u → Writable n room (runIf c u p)
+  entry-writable n room zero p u w = w
+  entry-writable n room (suc c) p u w = omega arith
+
   -- 12 is never given, and what is printed fits
   text-is : (room : ℕ) → 24576 ≤ room → 0 < length (printed t 1024 1024 1024 room)
-      → printed t 1024 1024 1024 room ≡ runText (readAnswer t 1024 .n) (runIf (readingCode t 1024) (learnedRun t 1024 1024 1024) (readingPlace t 1024))
-  unfolding printed learnedRun
+      → printed t 1024 1024 1024 room ≡ runText (readAnswer t 1024 .n) (ownNames t (readAnswer t 1024 .n)) (runIf (readingCode t 1024) (learnedRun t 1024 1024 1024) (readingPlace t 1024))
+  unfolding printed runPrinted learnedRun
   text-is room h q =
+      let n = readAnswer t 1024 .n in
       room-some room _ q
-      ∙ ap (λ (z : Run). runText (readAnswer t 1024 .n) (runIf (readingCode t 1024) z (readingPlace t 1024)))
-      (never-12 (readAnswer t 1024 .n) 1024 room (omega arith) h (learnedRun t 1024 1024 1024) (learn-writable (readAnswer t 1024 .n) 1024 1024 (take (readAnswer t 1024 .count) (readList t 1024))))
+      ∙ ap (runText n (ownNames t n))
+      (never-12 n 1024 room t (omega arith) h _
+      (entry-writable n 1024 (readingCode t 1024) (readingPlace t 1024) (learnedRun t 1024 1024 1024) (learn-writable n 1024 1024 (take (readAnswer t 1024 .count) (readList t 1024)))))
 
 -- ---- the theorem
 
-said : (t out out′ : List ℕ) (r n : ℕ) (u : Run) → Says t n u → r ≡ length (runText n u) → out′ ≡ written out 0 (runText n u) → Printed t out out′ r
+said : (t out out′ : List ℕ) (r n : ℕ) (u : Run) → Says t n u → r ≡ length (runText n (ownNames t n) u) → out′ ≡ written out 0 (runText n (ownNames t n) u) → Printed t out out′ r
 unfolding runText
 said t out out′ r n (refused c p) q e f = a-refusal (record { code = c; place = p; refused = q; prints = prints-of out out′ (refusalLine c p) r e f })
 said t out out′ r n (going b s x y) q e f =
@@ -156,7 +163,7 @@ said t out out′ r n (going b s x y) q e f =
       rising = ap increasing (sym is) ∙ k .sheet-rising;
       only-prime = λ w m. k .only-prime w (subst (λ (z : List ℕ). Mem w z) (sym is) m);
       all-prime = λ w m. subst (λ (z : List ℕ). Mem w z) is (k .all-prime w m);
-      prints = prints-of out out′ (sheetText n s) r e f;
+      prints = prints-of out out′ (sheetText n (ownNames t n) s) r e f;
     })
 
 -- demand 2 from text to text: in the program's rooms, whatever satisfies its contract prints the sheet of the recording, or the line of the refusal that 01 gives

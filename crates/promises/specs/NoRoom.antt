@@ -18,6 +18,7 @@ use Rattle.headers.specs.Layouts.{recording}
 use Rattle.headers.specs.Accepted.{Accepted}
 use Rattle.recording.specs.Rows.{textWords}
 use Rattle.recording.specs.declared.ReadAnswer.{ReadAnswer}
+use Rattle.naming.specs.Columns.{namesFor}
 use Rattle.writing.specs.SheetText.{sheetText}
 use Rattle.writing.specs.declared.WriteAnswer.{WriteAnswer}
 use Rattle.program.specs.Program.{refusalLine}
@@ -98,10 +99,10 @@ abbrev pub ReadEight : List ℕ → List ℕ → ReadAnswer → Type 0
 ReadEight t list r = (r .code ≡ 8) ↔ (((n : ℕ) × Accepted recording n t) × (length list < length (textWords t)))
 
 -- writing, 12: none of 2, 3 and 5 applies, and the written text is longer than its slice
-abbrev pub WriteTwelve : ℕ → List ℕ → ℕ → List ℕ → WriteAnswer → Type 0
-WriteTwelve n sheet count out r =
+abbrev pub WriteTwelve : ℕ → List ℕ → ℕ → List ℕ → List ℕ → List ℕ → WriteAnswer → Type 0
+WriteTwelve n sheet count panel maker out r =
     (r .answer .code ≡ 12)
-    ↔ ((panelSize n ≡ true) × (count ≤ length sheet) × (goodSheet n (take count sheet) ≡ true) × (length out < length (sheetText n (take count sheet))))
+    ↔ ((panelSize n ≡ true) × (count ≤ length sheet) × (goodSheet n (take count sheet) ≡ true) × (length out < length (sheetText n (namesFor panel maker n) (take count sheet))))
 
 -- ---- the program in its rooms, by the line that it prints
 
@@ -114,6 +115,6 @@ RunEight t out out′ r =
 abbrev pub RunNine : List ℕ → List ℕ → List ℕ → ℕ → Type 0
 RunNine t out out′ r = (k : ℕ) → Prints out out′ r (refusalLine 9 k) ↔ ((n : ℕ) × (ts : List ℕ) × Recorded t n ts × SheetFull n ts 1024 1024 k)
 
--- 12: never, as the longest text of 1,024 rules fits
+-- 12: never, as the longest text of 1,024 rules fits, with the longest names
 abbrev pub RunTwelve : List ℕ → List ℕ → List ℕ → ℕ → Type 0
 RunTwelve t out out′ r = (k : ℕ) → Prints out out′ r (refusalLine 12 k) → ⊥

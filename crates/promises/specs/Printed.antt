@@ -1,7 +1,7 @@
 -- From text to text: what the program prints for an input, in the words of document 01. It is the sheet of the recording, or the line of a refusal.
 use mathlib.Core.Path.{_≡_}
 use mathlib.Core.Bool.{true}
-use mathlib.Core.List.{List, List·Memᴰ as Mem}
+use mathlib.Core.List.{List, [], List·Memᴰ as Mem}
 use Prim.Native.Nat.{ℕ, _≤_, _<_}
 use lib.ListN.{length, take, drop}
 use Rattle.table.specs.Lists.{increasing}
@@ -9,8 +9,9 @@ use Rattle.headers.specs.Layouts.{recording}
 use Rattle.headers.specs.Accepted.{Accepted}
 use Rattle.headers.specs.Places.{Place}
 use Rattle.recording.specs.Rows.{textWords}
+use Rattle.naming.specs.Naming.{nameOf}
 use Rattle.writing.specs.SheetText.{sheetText}
-use Rattle.program.specs.Program.{refusalLine}
+use Rattle.program.specs.Program.{refusalLine, ownNames}
 use Rattle.prime.specs.Primes.{Prime}
 use Rattle.handover.specs.Learning.{Learnable, LearnRefused}
 
@@ -27,6 +28,10 @@ pub record Recorded (t : List ℕ) (n : ℕ) (ts : List ℕ) : Type 0 where
 pub record SameRows (t u : List ℕ) : Type 0 where
   pub there : (w : ℕ) → Mem w (textWords t) → Mem w (textWords u)
   pub back : (w : ℕ) → Mem w (textWords u) → Mem w (textWords t)
+
+-- each of n columns has the same name in both texts, or in neither; there is no maker's text
+pub record SameNames (n : ℕ) (t u : List ℕ) : Type 0 where
+  pub same : (column : ℕ) → column < n → nameOf t [] column ≡ nameOf u [] column
 
 -- ---- refusals
 
@@ -46,7 +51,7 @@ pub record Prints (out out′ : List ℕ) (r : ℕ) (s : List ℕ) : Type 0 wher
   pub text : take r out′ ≡ s
   pub behind : drop r out′ ≡ drop r out
 
--- the sheet s of the recording is printed: it lists the rules that are prime for its words, all of them and nothing else, in increasing order
+-- the sheet s of the recording is printed, with the recording's own names: it lists the rules that are prime for its words, all of them and nothing else, in increasing order
 pub record SheetPrinted (t out out′ : List ℕ) (r : ℕ) : Type 0 where
   pub n : ℕ
   pub ts : List ℕ
@@ -56,7 +61,7 @@ pub record SheetPrinted (t out out′ : List ℕ) (r : ℕ) : Type 0 where
   pub rising : increasing s ≡ true
   pub only-prime : (w : ℕ) → Mem w s → Prime n ts w
   pub all-prime : (w : ℕ) → Prime n ts w → Mem w s
-  pub prints : Prints out out′ r (sheetText n s)
+  pub prints : Prints out out′ r (sheetText n (ownNames t n) s)
 
 -- `refused C at P` is printed, the text being refused with C at P
 pub record RefusalPrinted (t out out′ : List ℕ) (r : ℕ) : Type 0 where

@@ -15,6 +15,9 @@ use Rattle.sessions.specs.Sessions.{Starts, Takes}
 use Rattle.sessions.specs.declared.Session.{Session}
 use Rattle.sessions.specs.declared.Outcome.{Outcome}
 use Rattle.lent.specs.Lent.{TakesLent}
+use denote.Ref.{RefT, now}
+use Rattle.naming.specs.Naming.{spotOf, PartOf}
+use Rattle.naming.specs.declared.Spot.{Spot}
 use Rattle.recording.specs.Reading.{Reads}
 use Rattle.recording.specs.declared.ReadAnswer.{ReadAnswer}
 use Rattle.writing.specs.Writing.{Writes}
@@ -32,10 +35,12 @@ pub data Call : Type 0 where
   session-take : (s : Session) (book sheet : List ℕ) (i j : ℕ) → Call
   session-take-lent : (s : Session) (book sheet : List ℕ) (i j : ℕ) → Call
   read : (text list : List ℕ) → Call
-  write-sheet : (n : ℕ) (sheet : List ℕ) (count : ℕ) (out : List ℕ) → Call
+  find-name : (panel maker : List ℕ) (column : ℕ) → Call
+  lookup : (panel maker : RefT (List ℕ)) (column : ℕ) → Call
+  write-sheet : (n : ℕ) (sheet : List ℕ) (count : ℕ) (panel maker out : List ℕ) → Call
   run : (input list book sheet output : List ℕ) → Call
 
--- what it gives: the answer first, then what is left in each slice or record
+-- what it gives: the answer first, then what is left in each slice or record; of a lookup's part its bytes, and the block and the place where it begins
 abbrev pub Result : Call → Type 0
 Result (fresh n sheet) = Answer × List ℕ
 Result (take n book bookCount sheet sheetCount i j) = Answer × List ℕ × List ℕ
@@ -46,7 +51,9 @@ Result (session-start n sheet) = Outcome × List ℕ
 Result (session-take s book sheet i j) = Outcome × List ℕ × List ℕ
 Result (session-take-lent s book sheet i j) = Answer × Session × List ℕ × List ℕ
 Result (read text list) = ReadAnswer × List ℕ
-Result (write-sheet n sheet count out) = WriteAnswer × List ℕ
+Result (find-name panel maker column) = Spot
+Result (lookup panel maker column) = List ℕ × ℕ × ℕ
+Result (write-sheet n sheet count panel maker out) = WriteAnswer × List ℕ
 Result (run input list book sheet output) = ℕ × List ℕ × List ℕ × List ℕ × List ℕ
 
 -- what the function of src/ ensures, which is stated by this
@@ -60,5 +67,7 @@ Contract (session-start n sheet) r = Starts n sheet (r .1) (r .0)
 Contract (session-take s book sheet i j) r = Takes s book sheet i j (r .1) (r .2) (r .0)
 Contract (session-take-lent s book sheet i j) r = TakesLent s book sheet i j (r .1) (r .2) (r .3) (r .0)
 Contract (read text list) r = Reads text list (r .1) (r .0)
-Contract (write-sheet n sheet count out) r = Writes n sheet count out (r .1) (r .0)
+Contract (find-name panel maker column) r = r ≡ spotOf panel maker column
+Contract (lookup panel maker column) r = PartOf panel maker (spotOf (now panel) (now maker) column) (r .0) (r .1) (r .2)
+Contract (write-sheet n sheet count panel maker out) r = Writes n sheet count panel maker out (r .1) (r .0)
 Contract (run input list book sheet output) r = Runs input list book sheet output (r .1) (r .2) (r .3) (r .4) (r .0)

@@ -1,12 +1,14 @@
 // The public calls, all of them, each stated by the one `Contract`: what it is called with, what it answers, and what it leaves in every slice or record lent to it.
 use answers::Answer;
 use calls::Applied;
+use naming::Spot;
 use recording::ReadAnswer;
 use sessions::Outcome;
 use sessions::Session;
 use writing::WriteAnswer;
 ghost use Rattle.joining.specs.Joining.{piece};
-ghost use Rattle.public.specs.PublicCalls.{fresh, take, learn, join, apply, session-start, session-take, session-take-lent, read, write-sheet, run, Contract};
+ghost use Rattle.public.specs.PublicCalls.{fresh, take, learn, join, apply, session-start, session-take, session-take-lent, read, find-name, lookup, write-sheet, run, Contract};
+ghost use denote.Ref.{ptr};
 
 // Writes the fresh sheet: n rules with empty bodies.
 pub fn fresh(n: u32, sheet: &mut [u32]) -> Answer
@@ -115,11 +117,32 @@ pub fn read(text: &[u8], list: &mut [u32]) -> ReadAnswer
     recording::read(text, list)
 }
 
-// Writes a sheet as text.
-pub fn write_sheet(n: u32, sheet: &[u32], count: usize, out: &mut [u8]) -> WriteAnswer
-    ensures { λ r. ⌜ Contract (write-sheet n (now (sheet .entry)) count (now (out .entry))) (r, now (out .exit)) ⌝ }
+// Where the name of a column stands: in the panel's text, or else in the maker's.
+pub fn find_name(panel: &[u8], maker: &[u8], column: usize) -> Spot
+    ensures { λ r. ⌜ Contract (find-name (now (panel .entry)) (now (maker .entry)) column) r ⌝ }
 {
-    writing::write_sheet(n, sheet, count, out)
+    naming::find(panel, maker, column)
+}
+
+// The name of a column: a part of the panel's text, or else of the maker's.
+pub fn lookup<'a>(panel: &'a [u8], maker: &'a [u8], column: usize) -> &'a [u8]
+    ensures { λ r. ⌜ Contract (lookup (panel .entry) (maker .entry) column) (now r, ptr r .0, ptr r .1) ⌝ }
+{
+    naming::lookup(panel, maker, column)
+}
+
+// Writes a sheet as text, with the names of its columns if each has one.
+pub fn write_sheet<'a>(
+    n: u32,
+    sheet: &[u32],
+    count: usize,
+    panel: &'a [u8],
+    maker: &'a [u8],
+    out: &mut [u8],
+) -> WriteAnswer
+    ensures { λ r. ⌜ Contract (write-sheet n (now (sheet .entry)) count (now (panel .entry)) (now (maker .entry)) (now (out .entry))) (r, now (out .exit)) ⌝ }
+{
+    writing::write_sheet(n, sheet, count, panel, maker, out)
 }
 
 // The whole program on slices: the length of what stands in `output`.

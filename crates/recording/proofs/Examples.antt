@@ -10,8 +10,8 @@ use Rattle.fields.specs.Bytes.{markOf, run, same}
 use Rattle.fields.specs.Texts.{linesOf, body}
 use Rattle.fields.specs.Values.{cubeOf, digits, numberOf}
 use Rattle.fields.specs.Fields.{fieldsFrom, fieldsIn}
-use Rattle.lines.specs.Lines.{keyOf, typedOf, rowLine, classOf, ofFields, lineOf}
-use Rattle.headers.specs.Headers.{lacks, lacksNone, readyOf, rowFits, openOf, fitsOf, headerAllowed, endAllowed, rowAllowed, allowedAt, nextAt}
+use Rattle.lines.specs.Lines.{otherKey, keyOf, typedOf, rowLine, classOf, ofFields, lineOf}
+use Rattle.headers.specs.Headers.{lacks, lacksNone, readyOf, rowFits, openOf, fitsOf, headerAllowed, endAllowed, rowAllowed, named, allowedBy, allowedAt, nextAt}
 use Rattle.headers.specs.Verdicts.{finishOf, judgeLines, judgeOf}
 use Rattle.recording.specs.Rows.{matchesOf, wordsBelow, linesWords, textWords}
 use Rattle.recording.specs.Reading.{refusal, readAnswer, readList}
@@ -83,5 +83,5 @@ abbrev leading-zero : Example
 leading-zero = record { text = 46 ∷ 105 ∷ 32 ∷ 48 ∷ 49 ∷ 10 ∷ []; room = 1; answer = refusal 11 1; words = [] }
 
 pub examples-hold : Holds (panel ∷ dashes ∷ no-rows ∷ full ∷ empty ∷ endless ∷ early-end ∷ unequal ∷ miscounted ∷ leading-zero ∷ [])
-unfolding filled on relays allOn allOff transitionWord markOf run same linesOf body cubeOf digits numberOf fieldsFrom fieldsIn keyOf typedOf rowLine classOf ofFields lineOf lacks lacksNone readyOf rowFits openOf fitsOf headerAllowed endAllowed rowAllowed allowedAt nextAt finishOf judgeLines judgeOf matchesOf wordsBelow linesWords textWords readAnswer readList
+unfolding filled on relays allOn allOff transitionWord markOf run same linesOf body cubeOf digits numberOf fieldsFrom fieldsIn otherKey keyOf typedOf rowLine classOf ofFields lineOf lacks lacksNone readyOf rowFits openOf fitsOf headerAllowed endAllowed rowAllowed named allowedBy allowedAt nextAt finishOf judgeLines judgeOf matchesOf wordsBelow linesWords textWords readAnswer readList
 examples-hold = ((refl, refl), ((refl, refl), ((refl, refl), ((refl, refl), ((refl, refl), ((refl, refl), ((refl, refl), ((refl, refl), ((refl, refl), ((refl, refl), tt))))))))))

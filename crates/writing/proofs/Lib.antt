@@ -1,4 +1,5 @@
 pub mod PutLaws
+pub mod NameLines
 pub mod TextLaws
 pub mod WriteLaws
 pub mod OneText

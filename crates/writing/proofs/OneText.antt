@@ -1,4 +1,4 @@
--- One sheet has one text, and back: sheets of different words, or of different panels, are written differently.
+-- One sheet has one text, and back: sheets of different words, of different names or of different panels are written differently.
 use Prim.Native.Nat.{ℕ, zero, suc, _<_}
 use mathlib.Core.Path.{_≡_, refl, sym, _∙_, ap}
 use mathlib.Core.List.{List, [], _∷_, _++_, append-assoc, append-cancel-left, append-cancel-right, head-eq-of-cons-eq, tail-eq-of-cons-eq}
@@ -21,7 +21,10 @@ use Rattle.fields.specs.Texts.{linesOf}
 use Rattle.fields.proofs.DecimalLaws.{decimal-unique, decimal-all-digits}
 use Rattle.fields.proofs.FieldLaws.{end-or}
 use Rattle.fields.proofs.JoinLaws.{NoFeed, lines-cons-feed, digits-no-feed}
-use Rattle.writing.specs.TableText.{bodyByte, headByte, columns, rowText, rowsText, headerText, typeText, countText, tableText}
+use Rattle.names.specs.Names.{goodNames, namesIn, spaced}
+use Rattle.lines.specs.declared.Part.the-variants.{Ins}
+use Rattle.lines.proofs.NamesWritten.{names-text, names-no-feed}
+use Rattle.writing.specs.TableText.{bodyByte, headByte, columns, rowText, rowsText, headerText, ilb, ob, nameText, nameLines, typeText, countText, tableText}
 use Rattle.writing.specs.SheetText.{sheetText}
 use Rattle.writing.proofs.TextLaws.{columns-length, row-length}
 
@@ -45,6 +48,34 @@ header-cut key v u x y e =
     let c = line-cut (decimal v) (decimal u) x y (digits-no-feed (decimal v) (decimal-all-digits v)) (digits-no-feed (decimal u) (decimal-all-digits u))
     (append-cancel-left key (decimal v ++ 10 ∷ x) (decimal u ++ 10 ∷ y) (sym (header-shape key v x) ∙ e ∙ header-shape key u y)) in
     (decimal-unique v u (c .0), c .1)
+
+-- ---- the name lines
+
+lines-shape : (names : List (List ℕ)) (x : List ℕ) → (nameText ilb names ++ nameText ob names) ++ x
+    ≡ (ilb ++ spaced names) ++ 10 ∷ (nameText ob names ++ x)
+unfolding nameText
+lines-shape names x =
+    let outs = nameText ob names in
+    append-assoc (nameText ilb names) outs x ∙ ap (λ (z : List ℕ). ilb ++ z) (append-assoc (spaced names) (10 ∷ []) (outs ++ x))
+
+-- a name line determines its names
+ins-unique : (a b : List (List ℕ)) → goodNames a ≡ true → goodNames b ≡ true → ilb ++ spaced a ≡ ilb ++ spaced b → a ≡ b
+ins-unique a b h k e = sym (names-text a h Ins) ∙ ap namesIn e ∙ names-text b k Ins
+
+-- what stands behind the sizes: both name lines, or at once `.type`
+names-cut : (word : List ℕ) (a b : List (List ℕ)) (x y : List ℕ) → goodNames a ≡ true → goodNames b ≡ true
+    → nameLines a ++ (typeText word ++ x) ≡ nameLines b ++ (typeText word ++ y) → (a ≡ b) × (x ≡ y)
+unfolding nameLines nameText typeText
+names-cut word [] [] x y h k e = (refl, append-cancel-left (typeText word) x y e)
+names-cut word [] (w ∷ b) x y h k e = absurd (omega (arith, head-eq-of-cons-eq (tail-eq-of-cons-eq e)))
+names-cut word (v ∷ a) [] x y h k e = absurd (omega (arith, head-eq-of-cons-eq (tail-eq-of-cons-eq e)))
+names-cut word (v ∷ a) (w ∷ b) x y h k e =
+    let c = line-cut (ilb ++ spaced (v ∷ a)) (ilb ++ spaced (w ∷ b)) _ _ (names-no-feed (v ∷ a) h Ins) (names-no-feed (w ∷ b) k Ins)
+    (sym (lines-shape (v ∷ a) (typeText word ++ x)) ∙ e ∙ lines-shape (w ∷ b) (typeText word ++ y)) in
+    let f = ins-unique (v ∷ a) (w ∷ b) h k (c .0) in
+    let outs = nameText ob (v ∷ a) in
+    let r : outs ++ (typeText word ++ x) ≡ outs ++ (typeText word ++ y) = c .1 ∙ ap (λ (z : List (List ℕ)). nameText ob z ++ (typeText word ++ y)) (sym f) in
+    (f, append-cancel-left (typeText word) x y (append-cancel-left outs (typeText word ++ x) (typeText word ++ y) r))
 
 -- ---- a row
 
@@ -120,17 +151,20 @@ rows-unique n (w ∷ ws) (u ∷ us) l h k e =
 
 -- ---- the whole
 
-pub text-unique : (n m : ℕ) (ws us : List ℕ) → all (validRule n) ws ≡ true → all (validRule m) us ≡ true → sheetText n ws ≡ sheetText m us → (n ≡ m) × (ws ≡ us)
+pub text-unique : (n m : ℕ) (a b : List (List ℕ)) (ws us : List ℕ) → goodNames a ≡ true → goodNames b ≡ true → all (validRule n) ws ≡ true → all (validRule m) us ≡ true
+    → sheetText n a ws ≡ sheetText m b us → (n ≡ m) × (a ≡ b) × (ws ≡ us)
 unfolding sheetText tableText countText
-text-unique n m ws us h k e =
+text-unique n m a b ws us ha hb h k e =
     let i = header-cut (46 ∷ 105 ∷ 32 ∷ []) n m _ _ e in
     let o = header-cut (46 ∷ 111 ∷ 32 ∷ []) n m _ _ (i .1) in
-    let p = header-cut (46 ∷ 112 ∷ 32 ∷ []) (length ws) (length us) _ _ (append-cancel-left (typeText (102 ∷ [])) _ _ (o .1)) in
+    let l = names-cut (102 ∷ []) a b _ _ ha hb (o .1) in
+    let p = header-cut (46 ∷ 112 ∷ 32 ∷ []) (length ws) (length us) _ _ (l .1) in
     let r : rowsText bodyByte headByte n ws ≡ rowsText bodyByte headByte m us = append-cancel-right (rowsText bodyByte headByte n ws) (rowsText bodyByte headByte m us) (46 ∷ 101 ∷ 10 ∷ []) (p .1) in
-    (i .0, rows-unique n ws us (p .0) h (rw (← i .0) at k) (r ∙ ap (λ (x : ℕ). rowsText bodyByte headByte x us) (sym (i .0))))
+    (i .0, l .0, rows-unique n ws us (p .0) h (rw (← i .0) at k) (r ∙ ap (λ (x : ℕ). rowsText bodyByte headByte x us) (sym (i .0))))
 
--- two good sheets with one text are one sheet of one panel
-pub good-text-unique : (n m : ℕ) (ws us : List ℕ) → goodSheet n ws ≡ true → goodSheet m us ≡ true → sheetText n ws ≡ sheetText m us → (n ≡ m) × (ws ≡ us)
+-- two good sheets with good names, or without, that have one text are one sheet of one panel with the same names
+pub good-text-unique : (n m : ℕ) (a b : List (List ℕ)) (ws us : List ℕ) → goodNames a ≡ true → goodNames b ≡ true → goodSheet n ws ≡ true → goodSheet m us ≡ true
+    → sheetText n a ws ≡ sheetText m b us → (n ≡ m) × (a ≡ b) × (ws ≡ us)
 unfolding goodSheet
-good-text-unique n m ws us h k e =
-    text-unique n m ws us (and-l (all (validRule n) ws) (increasing ws && antichain ws) h) (and-l (all (validRule m) us) (increasing us && antichain us) k) e
+good-text-unique n m a b ws us ha hb h k e =
+    text-unique n m a b ws us ha hb (and-l (all (validRule n) ws) (increasing ws && antichain ws) h) (and-l (all (validRule m) us) (increasing us && antichain us) k) e

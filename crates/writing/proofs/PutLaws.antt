@@ -62,6 +62,17 @@ pub put-next : (d : List ℕ) (at : ℕ) (s d′ : List ℕ) (e i : ℕ) (d″ :
 put-next d at s d′ e i d″ f h l p q =
     rw (add-one i, take-suc s i 0 l) (put-then d at (take i s) d′ e (getD s i 0 ∷ []) d″ f (omega (arith, length-take i s)) p q)
 
+-- a line: a keyword, what it says, LF
+pub line-length : (key s : List ℕ) → length (key ++ (s ++ 10 ∷ [])) ≡ length key + (length s + 1)
+line-length key s = length-append key (s ++ 10 ∷ []) ∙ ap (λ (k : ℕ). length key + k) (length-append s (10 ∷ []))
+
+pub put-line : (d : List ℕ) (at : ℕ) (key s d₁ : List ℕ) (a : ℕ) (d₂ : List ℕ) (b : ℕ) (d₃ : List ℕ) (c : ℕ) → at + length (key ++ (s ++ 10 ∷ [])) ≤ length d
+    → Put d at key d₁ a → Put d₁ a s d₂ b → Put d₂ b (10 ∷ []) d₃ c → Put d at (key ++ (s ++ 10 ∷ [])) d₃ c
+put-line d at key s d₁ a d₂ b d₃ c h p q r =
+    let l = line-length key s in
+    put-then d at key d₁ a (s ++ 10 ∷ []) d₃ c (omega arith) p
+    (put-then d₁ a s d₂ b (10 ∷ []) d₃ c (omega (arith, p .behind, put-length d at key d₁ a (omega arith) p)) q r)
+
 -- a number: its only digit, or those of its tenth and the last
 pub put-digit : (d : List ℕ) (at v b : ℕ) (d′ : List ℕ) (e : ℕ) → v < 10 → b ≡ 48 + v → Put d at (b ∷ []) d′ e → Put d at (decimal v) d′ e
 put-digit d at v b d′ e h k p = rw (decimal-one v h, ← k) p

@@ -11,15 +11,12 @@ use lib.ListN.{length, getD, take, drop, length-append, take-append-drop}
 use lib.Seq.{take-suc}
 use borrow.Author.Tests.{le-leb, lt-leb, leb-true, leb-false}
 use Rattle.fields.specs.Decimals.{decimal}
-use Rattle.writing.specs.TableText.{columnByte, columns, rowText, rowsText, headerText, typeText, countText, tableText}
+use Rattle.writing.specs.TableText.{columnByte, columns, rowText, rowsText, headerText, nameLines, typeText, countText, tableText}
 use Rattle.writing.specs.SheetText.{sheetTable, sheetWord, sheetText}
-use Rattle.writing.specs.Writing.{Put, countLength, textLength}
+use Rattle.writing.specs.Writing.{Put, countLength, namesLength, textLength}
 use Rattle.writing.specs.declared.Table.{Table}
-use Rattle.writing.proofs.PutLaws.{put-none, put-length, put-then}
-
--- a line of a key and what stands behind it
-line-length : (key s : List ℕ) → length (key ++ (s ++ 10 ∷ [])) ≡ length key + (length s + 1)
-line-length key s = length-append key (s ++ 10 ∷ []) ∙ ap (λ (k : ℕ). length key + k) (length-append s (10 ∷ []))
+use Rattle.writing.proofs.PutLaws.{put-none, put-length, put-then, line-length, put-line}
+use Rattle.writing.proofs.NameLines.{lines-length}
 
 -- ---- columns
 
@@ -110,29 +107,22 @@ put-count-none d at counted k c = rw c (put-none d at)
 
 -- ---- the whole
 
-pub table-parts : (t : Table) (word : List ℕ) (n : ℕ) (ws : List ℕ) → length (tableText t word n ws)
-    ≡ length (headerText (46 ∷ 105 ∷ 32 ∷ []) n) + (length (headerText (46 ∷ 111 ∷ 32 ∷ []) n) + (length (typeText word) + (length (countText (t .counted) (length ws)) + (length (rowsText (columnByte (t .ins)) (columnByte (t .outs)) n ws) + 3))))
+pub table-parts : (t : Table) (word : List ℕ) (n : ℕ) (names : List (List ℕ)) (ws : List ℕ) → length (tableText t word n names ws)
+    ≡ length (headerText (46 ∷ 105 ∷ 32 ∷ []) n) + (length (headerText (46 ∷ 111 ∷ 32 ∷ []) n) + (length (nameLines names) + (length (typeText word) + (length (countText (t .counted) (length ws)) + (length (rowsText (columnByte (t .ins)) (columnByte (t .outs)) n ws) + 3)))))
 unfolding tableText
-table-parts t word n ws = simp length-append (omega arith)
+table-parts t word n names ws = simp length-append (omega arith)
 
--- three, four and six things one behind the other
+-- three, four and seven things one behind the other
 module _ (d : List ℕ) (at : ℕ) where
-  put-line : (key s d₁ : List ℕ) (a : ℕ) (d₂ : List ℕ) (b : ℕ) (d₃ : List ℕ) (c : ℕ) → at + length (key ++ (s ++ 10 ∷ [])) ≤ length d
-      → Put d at key d₁ a → Put d₁ a s d₂ b → Put d₂ b (10 ∷ []) d₃ c → Put d at (key ++ (s ++ 10 ∷ [])) d₃ c
-  put-line key s d₁ a d₂ b d₃ c h p q r =
-      let l = line-length key s in
-      put-then d at key d₁ a (s ++ 10 ∷ []) d₃ c (omega arith) p
-      (put-then d₁ a s d₂ b (10 ∷ []) d₃ c (omega (arith, p .behind, put-length d at key d₁ a (omega arith) p)) q r)
-
   pub put-header-text : (key : List ℕ) (v : ℕ) (d₁ : List ℕ) (a : ℕ) (d₂ : List ℕ) (b : ℕ) (d₃ : List ℕ) (c : ℕ) → at + length (headerText key v) ≤ length d
       → Put d at key d₁ a → Put d₁ a (decimal v) d₂ b → Put d₂ b (10 ∷ []) d₃ c → Put d at (headerText key v) d₃ c
   unfolding headerText
-  put-header-text key v = put-line key (decimal v)
+  put-header-text key v = put-line d at key (decimal v)
 
   pub put-type-text : (word d₁ : List ℕ) (a : ℕ) (d₂ : List ℕ) (b : ℕ) (d₃ : List ℕ) (c : ℕ) → at + length (typeText word) ≤ length d
       → Put d at (46 ∷ 116 ∷ 121 ∷ 112 ∷ 101 ∷ 32 ∷ []) d₁ a → Put d₁ a word d₂ b → Put d₂ b (10 ∷ []) d₃ c → Put d at (typeText word) d₃ c
   unfolding typeText
-  put-type-text word = put-line (46 ∷ 116 ∷ 121 ∷ 112 ∷ 101 ∷ 32 ∷ []) word
+  put-type-text word = put-line d at (46 ∷ 116 ∷ 121 ∷ 112 ∷ 101 ∷ 32 ∷ []) word
 
   pub put-row-text : (ins outs : ℕ → ℕ → ℕ) (n w : ℕ) (d₁ : List ℕ) (a : ℕ) (d₂ : List ℕ) (b : ℕ) (d₃ : List ℕ) (c : ℕ) (d₄ : List ℕ) (e : ℕ) → at + length (rowText ins outs n w) ≤ length d
       → Put d at (columns (ins w) n) d₁ a → Put d₁ a (32 ∷ []) d₂ b → Put d₂ b (columns (outs w) n) d₃ c → Put d₃ c (10 ∷ []) d₄ e
@@ -148,41 +138,44 @@ module _ (d : List ℕ) (at : ℕ) where
       (put-then d₁ a (32 ∷ []) d₂ b (columns (outs w) n ++ 10 ∷ []) d₄ e (omega (arith, p .behind)) q
       (put-then d₂ b (columns (outs w) n) d₃ c (10 ∷ []) d₄ e (omega (arith, p .behind, q .behind)) r s))
 
-  pub put-table-text : (t : Table) (word : List ℕ) (n : ℕ) (ws d₁ : List ℕ) (a : ℕ) (d₂ : List ℕ) (b : ℕ) (d₃ : List ℕ) (c : ℕ) (d₄ : List ℕ) (e : ℕ) (d₅ : List ℕ) (f : ℕ) (d₆ : List ℕ) (g : ℕ)
-      → at + length (tableText t word n ws) ≤ length d
-      → Put d at (headerText (46 ∷ 105 ∷ 32 ∷ []) n) d₁ a → Put d₁ a (headerText (46 ∷ 111 ∷ 32 ∷ []) n) d₂ b
-      → Put d₂ b (typeText word) d₃ c → Put d₃ c (countText (t .counted) (length ws)) d₄ e
-      → Put d₄ e (rowsText (columnByte (t .ins)) (columnByte (t .outs)) n ws) d₅ f → Put d₅ f (46 ∷ 101 ∷ 10 ∷ []) d₆ g → Put d at (tableText t word n ws) d₆ g
+  pub put-table-text : (t : Table) (word : List ℕ) (n : ℕ) (names : List (List ℕ)) (ws d₁ : List ℕ) (a : ℕ) (d₂ : List ℕ) (b : ℕ) (d₃ : List ℕ) (c : ℕ) (d₄ : List ℕ) (e : ℕ) (d₅ : List ℕ) (f : ℕ) (d₆ : List ℕ) (g : ℕ) (d₇ : List ℕ) (k : ℕ)
+      → at + length (tableText t word n names ws) ≤ length d
+      → Put d at (headerText (46 ∷ 105 ∷ 32 ∷ []) n) d₁ a → Put d₁ a (headerText (46 ∷ 111 ∷ 32 ∷ []) n) d₂ b → Put d₂ b (nameLines names) d₃ c
+      → Put d₃ c (typeText word) d₄ e → Put d₄ e (countText (t .counted) (length ws)) d₅ f
+      → Put d₅ f (rowsText (columnByte (t .ins)) (columnByte (t .outs)) n ws) d₆ g → Put d₆ g (46 ∷ 101 ∷ 10 ∷ []) d₇ k → Put d at (tableText t word n names ws) d₇ k
   unfolding tableText
-  put-table-text tb word n ws d₁ a d₂ b d₃ c d₄ e d₅ f d₆ g h p q r s t u =
-      let l = table-parts tb word n ws in
-      let l₁ = put-length d at _ d₁ a (omega arith) p in
-      let l₂ = put-length d₁ a _ d₂ b (omega (arith, p .behind)) q in
-      let l₃ = put-length d₂ b _ d₃ c (omega (arith, p .behind, q .behind)) r in
-      let l₄ = put-length d₃ c _ d₄ e (omega (arith, p .behind, q .behind, r .behind)) s in
-      put-then d at _ d₁ a _ d₆ g (omega arith) p
-      (put-then d₁ a _ d₂ b _ d₆ g (omega (arith, p .behind)) q
-      (put-then d₂ b _ d₃ c _ d₆ g (omega (arith, p .behind, q .behind)) r
-      (put-then d₃ c _ d₄ e _ d₆ g (omega (arith, p .behind, q .behind, r .behind)) s
-      (put-then d₄ e _ d₅ f _ d₆ g (omega (arith, p .behind, q .behind, r .behind, s .behind)) t u))))
+  put-table-text tb word n names ws d₁ a d₂ b d₃ c d₄ e d₅ f d₆ g d₇ k h i o m y p r u =
+      let l = table-parts tb word n names ws in
+      let l₁ = put-length d at _ d₁ a (omega arith) i in
+      let l₂ = put-length d₁ a _ d₂ b (omega (arith, i .behind)) o in
+      let l₃ = put-length d₂ b _ d₃ c (omega (arith, i .behind, o .behind)) m in
+      let l₄ = put-length d₃ c _ d₄ e (omega (arith, i .behind, o .behind, m .behind)) y in
+      let l₅ = put-length d₄ e _ d₅ f (omega (arith, i .behind, o .behind, m .behind, y .behind)) p in
+      put-then d at _ d₁ a _ d₇ k (omega arith) i
+      (put-then d₁ a _ d₂ b _ d₇ k (omega (arith, i .behind)) o
+      (put-then d₂ b _ d₃ c _ d₇ k (omega (arith, i .behind, o .behind)) m
+      (put-then d₃ c _ d₄ e _ d₇ k (omega (arith, i .behind, o .behind, m .behind)) y
+      (put-then d₄ e _ d₅ f _ d₇ k (omega (arith, i .behind, o .behind, m .behind, y .behind)) p
+      (put-then d₅ f _ d₆ g _ d₇ k (omega (arith, i .behind, o .behind, m .behind, y .behind, p .behind)) r u)))))
 
 -- the length of the text is known before it is written
-pub table-length : (t : Table) (word : List ℕ) (n : ℕ) (ws : List ℕ) → length (tableText t word n ws) ≡ textLength t word n (length ws)
+pub table-length : (t : Table) (word : List ℕ) (n : ℕ) (names : List (List ℕ)) (ws : List ℕ) → length (tableText t word n names ws) ≡ textLength t word n names (length ws)
 unfolding textLength
-table-length t word n ws =
-    table-parts t word n ws
+table-length t word n names ws =
+    table-parts t word n names ws
     ∙ omega (
       arith,
       header-length (46 ∷ 105 ∷ 32 ∷ []) n,
       header-length (46 ∷ 111 ∷ 32 ∷ []) n,
+      lines-length names,
       type-length word,
       count-length (t .counted) (length ws),
       rows-length (columnByte (t .ins)) (columnByte (t .outs)) n ws,
     )
 
-pub sheet-length : (n : ℕ) (ws : List ℕ) → length (sheetText n ws) ≡ textLength sheetTable sheetWord n (length ws)
+pub sheet-length : (n : ℕ) (names : List (List ℕ)) (ws : List ℕ) → length (sheetText n names ws) ≡ textLength sheetTable sheetWord n names (length ws)
 unfolding sheetText
-sheet-length n ws = table-length sheetTable sheetWord n ws
+sheet-length n names ws = table-length sheetTable sheetWord n names ws
 
 -- rows fit behind the rest exactly if there are no more than the rest leaves room for
 pub rows-fit : (head count row room : ℕ) → 0 < row → head ≤ room → leb count ((room - head) / row) ≡ leb (head + count * row) room

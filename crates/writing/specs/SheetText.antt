@@ -14,6 +14,6 @@ sheetTable = record { counted = true; ins = Body; outs = Head }
 abbrev pub sheetWord : List ℕ
 sheetWord = 102 ∷ []
 
--- `.i n`, `.o n`, `.type f`, `.p count`, one row per rule in word order, `.e`
-unfoldable pub sheetText : ℕ → List ℕ → List ℕ
-sheetText n ws = tableText sheetTable sheetWord n ws
+-- `.i n`, `.o n`, `.ilb` and `.ob` with the names or neither, `.type f`, `.p count`, one row per rule in word order, `.e`
+unfoldable pub sheetText : ℕ → List (List ℕ) → List ℕ → List ℕ
+sheetText n names ws = tableText sheetTable sheetWord n names ws

@@ -1,10 +1,11 @@
--- The text of a table of words: two sizes, the type word, the number of rows or not, one row for each word, and the end mark.
+-- The text of a table of words: two sizes, two name lines or none, the type word, the number of rows or not, one row for each word, and the end mark.
 use Prim.Native.Nat.{ℕ, zero, suc}
 use mathlib.Core.List.{List, [], _∷_, _++_}
 use mathlib.Core.Bool.{Bool, cond}
 use lib.Dec.{eqb}
 use lib.ListN.{length}
 use Rattle.fields.specs.Decimals.{decimal}
+use Rattle.names.specs.Names.{spaced}
 use Rattle.panel.specs.Masks.{on}
 use Rattle.panel.specs.Rules.{head, mustOn, mustOff}
 use Rattle.writing.specs.declared.Column.{Column}
@@ -48,6 +49,22 @@ rowsText ins outs n (w ∷ ws) = rowText ins outs n w ++ rowsText ins outs n ws
 unfoldable pub headerText : List ℕ → ℕ → List ℕ
 headerText key v = key ++ (decimal v ++ 10 ∷ [])
 
+-- a keyword, each name after one space, LF
+unfoldable pub nameText : List ℕ → List (List ℕ) → List ℕ
+nameText key names = key ++ (spaced names ++ 10 ∷ [])
+
+-- the keywords of the two name lines
+abbrev pub ilb : List ℕ
+ilb = 46 ∷ 105 ∷ 108 ∷ 98 ∷ []
+
+abbrev pub ob : List ℕ
+ob = 46 ∷ 111 ∷ 98 ∷ []
+
+-- `.ilb` and `.ob`, each with the names; neither where there are none
+unfoldable pub nameLines : List (List ℕ) → List ℕ
+nameLines [] = []
+nameLines (w ∷ ws) = nameText ilb (w ∷ ws) ++ nameText ob (w ∷ ws)
+
 -- `.type` with its word, LF
 unfoldable pub typeText : List ℕ → List ℕ
 typeText word = (46 ∷ 116 ∷ 121 ∷ 112 ∷ 101 ∷ 32 ∷ []) ++ (word ++ 10 ∷ [])
@@ -58,12 +75,13 @@ countText counted k = cond counted (headerText (46 ∷ 112 ∷ 32 ∷ []) k) []
 
 -- ---- the whole
 
--- `.i n`, `.o n`, `.type` with the word, `.p` or not, the rows, `.e`
-unfoldable pub tableText : Table → List ℕ → ℕ → List ℕ → List ℕ
-tableText t word n ws =
+-- `.i n`, `.o n`, `.ilb` and `.ob` with the names or neither, `.type` with the word, `.p` or not, the rows, `.e`
+unfoldable pub tableText : Table → List ℕ → ℕ → List (List ℕ) → List ℕ → List ℕ
+tableText t word n names ws =
     headerText (46 ∷ 105 ∷ 32 ∷ []) n
     ++ (headerText (46 ∷ 111 ∷ 32 ∷ []) n
+    ++ (nameLines names
     ++ (typeText word
     ++ (countText (t .counted) (length ws)
     ++ (rowsText (columnByte (t .ins)) (columnByte (t .outs)) n ws
-    ++ (46 ∷ 101 ∷ 10 ∷ [])))))
+    ++ (46 ∷ 101 ∷ 10 ∷ []))))))

@@ -2,13 +2,15 @@
 use answers::Answer;
 ghost use mathlib.Core.Path.{_≡_};
 ghost use mathlib.Core.List.{_∷_, []};
-ghost use Prim.Native.Nat.{_+_, _^_, _≤_, _<_};
+ghost use Prim.Native.Nat.{_+_, _*_, _^_, _≤_, _<_};
 ghost use lib.Dec.{leb};
-ghost use lib.ListN.{length};
+ghost use lib.ListN.{length, take};
 ghost use Rattle.fields.specs.Decimals.{decimal};
-ghost use Rattle.writing.specs.TableText.{bodyByte, headByte, columnByte, columns, rowText, rowsText, headerText, typeText, countText, tableText};
+ghost use Rattle.fields.specs.Fields.{fieldsIn};
+ghost use Rattle.names.specs.Names.{spaced};
+ghost use Rattle.writing.specs.TableText.{bodyByte, headByte, columnByte, columns, rowText, rowsText, headerText, nameText, nameLines, typeText, countText, tableText};
 ghost use Rattle.writing.specs.SheetText.{sheetTable};
-ghost use Rattle.writing.specs.Writing.{Put, countLength, textLength, writeCode, withLength, Writes};
+ghost use Rattle.writing.specs.Writing.{Put, countLength, namesLength, textLength, writeCode, withLength, WritesNamed, Writes};
 
 // The common numbers, and the length of the text.
 pub struct WriteAnswer {
@@ -78,6 +80,80 @@ pub fn put_header(out: &mut [u8], at: usize, key: &[u8], v: usize) -> usize
     let a = put_bytes(out, at, key);
     let b = put_number(out, a, v);
     put_byte(out, b, 10)
+}
+
+// How many bytes the first n fields are, each after one space.
+fn spaced_length(names: &[u8], n: u32) -> usize
+    ensures { λ r. ⌜ (r ≡ length (spaced (take n (fieldsIn (now (names .entry)))))) × (r ≤ 2 * length (now (names .entry))) ⌝ }
+{
+    let mut sum = 0;
+    let mut i = 0;
+    let mut left = n;
+    while 0 < left {
+        let p = fields::field_at(names, i);
+        let from = p.from;
+        let to = p.to;
+        if from == names.len() {
+            return sum;
+        }
+        sum += 1 + (to - from);
+        i = to;
+        left -= 1;
+    }
+    sum
+}
+
+// A name after one space.
+fn put_name(out: &mut [u8], at: usize, w: &[u8]) -> usize
+    requires { ⌜ at + (1 + length (now w)) ≤ length (now out) ⌝ }
+    ensures { λ r. ⌜ Put (now (out .entry)) at (32 ∷ now (w .entry)) (now (out .exit)) r ⌝ }
+{
+    let a = put_byte(out, at, 32);
+    put_bytes(out, a, w)
+}
+
+// The first n fields, each after one space.
+fn put_spaced(out: &mut [u8], at: usize, names: &[u8], n: u32) -> usize
+    requires { ⌜ at + length (spaced (take n (fieldsIn (now names)))) ≤ length (now out) ⌝ }
+    ensures { λ r. ⌜ Put (now (out .entry)) at (spaced (take n (fieldsIn (now (names .entry))))) (now (out .exit)) r ⌝ }
+{
+    let mut e = at;
+    let mut i = 0;
+    let mut left = n;
+    while 0 < left {
+        let p = fields::field_at(names, i);
+        let from = p.from;
+        let to = p.to;
+        if from == names.len() {
+            return e;
+        }
+        e = put_name(out, e, &names[from..to]);
+        i = to;
+        left -= 1;
+    }
+    e
+}
+
+// A name line: its keyword and the first n fields.
+fn put_names(out: &mut [u8], at: usize, key: &[u8], names: &[u8], n: u32) -> usize
+    requires { ⌜ at + length (nameText (now key) (take n (fieldsIn (now names)))) ≤ length (now out) ⌝ }
+    ensures { λ r. ⌜ Put (now (out .entry)) at (nameText (now (key .entry)) (take n (fieldsIn (now (names .entry))))) (now (out .exit)) r ⌝ }
+{
+    let a = put_bytes(out, at, key);
+    let b = put_spaced(out, a, names, n);
+    put_byte(out, b, 10)
+}
+
+// Both name lines, or nothing where there are no names.
+fn put_name_lines(out: &mut [u8], at: usize, names: &[u8], n: u32) -> usize
+    requires { ⌜ at + length (nameLines (take n (fieldsIn (now names)))) ≤ length (now out) ⌝ }
+    ensures { λ r. ⌜ Put (now (out .entry)) at (nameLines (take n (fieldsIn (now (names .entry))))) (now (out .exit)) r ⌝ }
+{
+    if spaced_length(names, n) == 0 {
+        return at;
+    }
+    let a = put_names(out, at, b".ilb", names, n);
+    put_names(out, a, b".ob", names, n)
 }
 
 // The line `.type` with its word.
@@ -166,20 +242,21 @@ fn put_rows(out: &mut [u8], at: usize, n: u32, words: &[u32], ins: Column, outs:
     e
 }
 
-// The text of a table, at the start of `out`; returns its length.
-fn put_table(t: Table, word: &[u8], n: u32, words: &[u32], out: &mut [u8]) -> usize
-    requires { ⌜ length (tableText t (now word) n (now words)) ≤ length (now out) ⌝ }
-    ensures { λ r. ⌜ Put (now (out .entry)) 0 (tableText t (now (word .entry)) n (now (words .entry))) (now (out .exit)) r ⌝ }
+// The text of a table, at the start of `out`, with the first n fields of `names` as its names; returns its length.
+fn put_table(t: Table, word: &[u8], n: u32, names: &[u8], words: &[u32], out: &mut [u8]) -> usize
+    requires { ⌜ length (tableText t (now word) n (take n (fieldsIn (now names))) (now words)) ≤ length (now out) ⌝ }
+    ensures { λ r. ⌜ Put (now (out .entry)) 0 (tableText t (now (word .entry)) n (take n (fieldsIn (now (names .entry)))) (now (words .entry))) (now (out .exit)) r ⌝ }
 {
     let counted = t.counted;
     let ins = t.ins;
     let outs = t.outs;
     let a = put_header(out, 0, b".i ", n as usize);
     let b = put_header(out, a, b".o ", n as usize);
-    let c = put_type(out, b, word);
-    let d = put_count(out, c, counted, words.len());
-    let e = put_rows(out, d, n, words, ins, outs);
-    put_bytes(out, e, b".e\n")
+    let c = put_name_lines(out, b, names, n);
+    let d = put_type(out, c, word);
+    let e = put_count(out, d, counted, words.len());
+    let f = put_rows(out, e, n, words, ins, outs);
+    put_bytes(out, f, b".e\n")
 }
 
 // The number of digits.
@@ -206,19 +283,37 @@ fn count_length(counted: bool, count: usize) -> usize
     0
 }
 
+// The name lines and `count` rows are not longer than the room.
+fn rest_fits(n: u32, names: &[u8], count: usize, room: usize) -> bool
+    requires { ⌜ (n ≤ 10) × (room < 2 ^ 63) ⌝ }
+    ensures { λ r. ⌜ r ≡ leb (namesLength (take n (fieldsIn (now (names .entry)))) + count * (2 * n + 2)) room ⌝ }
+{
+    let row = 2 * n as usize + 2;
+    let spaced = spaced_length(names, n);
+    if spaced == 0 {
+        return count <= room / row;
+    }
+    if room / 2 < spaced {
+        return false;
+    }
+    let lines = 9 + 2 * spaced;
+    if room < lines {
+        return false;
+    }
+    count <= (room - lines) / row
+}
+
 // The text of a table of `count` rows is not longer than the room.
-fn text_fits(t: Table, word: &[u8], n: u32, count: usize, room: usize) -> bool
-    requires { ⌜ (n ≤ 10) × (count < 2 ^ 63) × (length (now word) ≤ 2) ⌝ }
-    ensures { λ r. ⌜ r ≡ leb (textLength t (now (word .entry)) n count) room ⌝ }
+fn text_fits(t: Table, word: &[u8], n: u32, names: &[u8], count: usize, room: usize) -> bool
+    requires { ⌜ (n ≤ 10) × (count < 2 ^ 63) × (length (now word) ≤ 2) × (room < 2 ^ 63) ⌝ }
+    ensures { λ r. ⌜ r ≡ leb (textLength t (now (word .entry)) n (take n (fieldsIn (now (names .entry)))) count) room ⌝ }
 {
     let counted = t.counted;
-    let size = n as usize;
-    let head = 18 + word.len() + 2 * digits(size) + count_length(counted, count);
-    let row = 2 * size + 2;
+    let head = 18 + word.len() + 2 * digits(n as usize) + count_length(counted, count);
     if room < head {
         return false;
     }
-    count <= (room - head) / row
+    rest_fits(n, names, count, room - head)
 }
 
 // A sheet is a table with `.p`, of the bodies and heads of its rules.
@@ -233,8 +328,9 @@ fn sheet_table() -> Table
 }
 
 // 2, 3, 5 or 12, in this order; else 0.
-fn write_code(n: u32, sheet: &[u32], count: usize, room: usize) -> u32
-    ensures { λ r. ⌜ r ≡ writeCode n (now (sheet .entry)) count room ⌝ }
+fn write_code(n: u32, names: &[u8], sheet: &[u32], count: usize, room: usize) -> u32
+    requires { ⌜ room < 2 ^ 63 ⌝ }
+    ensures { λ r. ⌜ r ≡ writeCode n (take n (fieldsIn (now (names .entry)))) (now (sheet .entry)) count room ⌝ }
 {
     if !panel::is_panel_size(n) {
         return 2;
@@ -245,7 +341,7 @@ fn write_code(n: u32, sheet: &[u32], count: usize, room: usize) -> u32
     if !prime::is_good_sheet(n, &sheet[..count]) {
         return 5;
     }
-    if !text_fits(sheet_table(), b"f", n, count, room) {
+    if !text_fits(sheet_table(), b"f", n, names, count, room) {
         return 12;
     }
     0
@@ -258,13 +354,32 @@ fn with_length(code: u32, length: usize) -> WriteAnswer
     WriteAnswer { answer, length }
 }
 
-pub fn write_sheet(n: u32, sheet: &[u32], count: usize, out: &mut [u8]) -> WriteAnswer
-    ensures { λ r. ⌜ Writes n (now (sheet .entry)) count (now (out .entry)) (now (out .exit)) r ⌝ }
+// With the first n fields of `names` as the names.
+fn write_named(n: u32, names: &[u8], sheet: &[u32], count: usize, out: &mut [u8]) -> WriteAnswer
+    ensures { λ r. ⌜ WritesNamed n (take n (fieldsIn (now (names .entry)))) (now (sheet .entry)) count (now (out .entry)) (now (out .exit)) r ⌝ }
 {
-    let code = write_code(n, sheet, count, out.len());
+    let code = write_code(n, names, sheet, count, out.len());
     if code != 0 {
         return with_length(code, 0);
     }
-    let length = put_table(sheet_table(), b"f", n, &sheet[..count], out);
+    let length = put_table(sheet_table(), b"f", n, names, &sheet[..count], out);
     with_length(0, length)
+}
+
+// With the names that the panel's text and the maker's give all columns, or none.
+pub fn write_sheet<'a>(
+    n: u32,
+    sheet: &[u32],
+    count: usize,
+    panel: &'a [u8],
+    maker: &'a [u8],
+    out: &mut [u8],
+) -> WriteAnswer
+    ensures { λ r. ⌜ Writes n (now (sheet .entry)) count (now (panel .entry)) (now (maker .entry)) (now (out .entry)) (now (out .exit)) r ⌝ }
+{
+    let line = naming::name_line(panel, maker, n);
+    let p = names::names_span(line);
+    let from = p.from;
+    let to = p.to;
+    write_named(n, &line[from..to], sheet, count, out)
 }

@@ -1,6 +1,6 @@
-//! `tally REQUESTS ANSWERS [--skip CALL]`: how many cases of each call and code two files hold.
-//! Fails if a code that can occur in a call was never reached there, or one that cannot was; of a
-//! skipped call none is expected.
+//! `tally REQUESTS ANSWERS [--skip CALL]`: how many cases of each call and outcome two files
+//! hold. Fails if an outcome that can occur in a call was never reached there, or one that cannot
+//! was; of a skipped call none is expected.
 
 use std::fs::File;
 use std::io::{self, BufReader};

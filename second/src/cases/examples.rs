@@ -1,20 +1,22 @@
-//! The examples of document 01 as requests.
+//! The examples of document 01 as requests, and names.
 
 use super::requests::made;
 use crate::desk::{
-    Request, APPLY, FRESH, JOIN, LEARN, READ, RUN, SESSION_START, SESSION_TAKE, TAKE, WRITE,
+    Request, APPLY, FRESH, JOIN, LEARN, LOOKUP, READ, RUN, SESSION_START, SESSION_TAKE, TAKE, WRITE,
 };
 use crate::text::{MOST_INPUT, PROGRAM_BYTES, PROGRAM_WORDS};
 
 const RECORDING: &str = ".i 3\n.o 3\n.type fr\n111 110\n110 100\n100 000\n000 001\n001 001\n\
                          011 101\n101 010\n010 101\n.e\n";
 
+const NAMED: &str = ".i 3\n.o 3\n.ilb PUMP Valve_2 f\n.ob PUMP Valve_2 f\n111 110\n.e\n";
+
 /// What the output slices hold before a call.
 const RUBBISH: u64 = 77;
 
-/// K1 to K12, the other examples, the recording, and the text's edges.
+/// K1 to K12, the other examples, the recording, the text's edges, and names.
 pub fn examples() -> Vec<Request> {
-    [bench_examples(), size_examples(), text_examples()].concat()
+    [bench_examples(), size_examples(), text_examples(), name_examples()].concat()
 }
 
 fn rubbish(room: usize) -> Vec<u64> {
@@ -56,7 +58,7 @@ fn bench_examples() -> Vec<Request> {
         // K9's largest sheet on the way has seven rules.
         learn(3, &recording, 8, 7),
         learn(3, &recording, 8, 6),
-        made(WRITE, vec![3, 3], vec![k9.clone(), rubbish(60)]),
+        made(WRITE, vec![3, 3], vec![k9.clone(), vec![], vec![], rubbish(60)]),
         made(APPLY, vec![3, 5, 3], vec![k9]),
         made(
             JOIN,
@@ -84,7 +86,7 @@ fn size_examples() -> Vec<Request> {
                 vec![empty(), empty(), empty(), empty(), rubbish(2), rubbish(2)],
             ),
             made(APPLY, vec![n, 0, 0], vec![empty()]),
-            made(WRITE, vec![n, 0], vec![empty(), rubbish(40)]),
+            made(WRITE, vec![n, 0], vec![empty(), empty(), empty(), rubbish(40)]),
         ]);
     }
     requests.extend([
@@ -98,6 +100,7 @@ fn size_examples() -> Vec<Request> {
 
 fn text_examples() -> Vec<Request> {
     let long = "#".repeat(MOST_INPUT - RECORDING.len());
+    let named = "#".repeat(MOST_INPUT - NAMED.len());
     let texts = [
         RECORDING.to_string(),
         String::new(),
@@ -110,15 +113,50 @@ fn text_examples() -> Vec<Request> {
         ".i 2\n.o 2\n-- 01\n.e".to_string(),
         ".i 2\n.o 3\n.e".to_string(),
         ".e".to_string(),
+        NAMED.to_string(),
+        format!("{NAMED}{named}"),
+        ".i 2\n.o 2\n.ilb a b\n01 10\n.e\n".to_string(),
+        ".i 2\n.o 2\n.ob a b\n.e\n".to_string(),
+        ".ilb a b\n.ob a c\n.i 2\n.o 2\n.e\n".to_string(),
+        ".ilb a b\n.i 3\n.o 3\n.ob a b\n.e\n".to_string(),
         ".i 10\n.o 10\n---------- 1111111111\n---------- 1111111111\n.e\n".to_string(),
     ];
     let mut requests = Vec::new();
     for text in texts {
-        let bytes: Vec<u64> = text.bytes().map(u64::from).collect();
-        requests.push(made(READ, vec![], vec![bytes.clone(), rubbish(10)]));
+        requests.push(made(READ, vec![], vec![bytes(&text), rubbish(10)]));
         let words = || rubbish(PROGRAM_WORDS);
-        let slices = vec![bytes, words(), words(), words(), rubbish(PROGRAM_BYTES)];
+        let slices = vec![bytes(&text), words(), words(), words(), rubbish(PROGRAM_BYTES)];
         requests.push(made(RUN, vec![], slices));
+    }
+    requests
+}
+
+fn bytes(text: &str) -> Vec<u64> {
+    text.bytes().map(u64::from).collect()
+}
+
+/// Lookups and writes beside every pair of some texts: with names, without, and bad.
+fn name_examples() -> Vec<Request> {
+    let texts = [
+        NAMED,
+        ".i 5\n.o 5\n.ob 0 1 2 3 4\n.ilb 0 1 2 3 4 # five\n.e",
+        RECORDING,
+        "",
+        ".p 1\n.i 3\n.o 3\n.ilb a b c\n.ob a b c\n.e\n",
+        ".i 3\n.o 3\n.ilb a b c\n.e\n",
+    ];
+    let mut requests = Vec::new();
+    for panel in texts {
+        for maker in texts {
+            for column in [0, 2, 3, 4, 5, 10, 1 << 32, u64::MAX] {
+                let slices = vec![bytes(panel), bytes(maker)];
+                requests.push(made(LOOKUP, vec![column], slices));
+            }
+            for n in [1, 3, 4, 5, 6] {
+                let slices = vec![vec![], bytes(panel), bytes(maker), rubbish(60)];
+                requests.push(made(WRITE, vec![n, 0], slices));
+            }
+        }
     }
     requests
 }

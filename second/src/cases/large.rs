@@ -3,7 +3,8 @@
 use super::dice::Dice;
 use super::requests::made;
 use crate::desk::{
-    Request, APPLY, FRESH, JOIN, LEARN, MOST_BYTES, MOST_WORDS, READ, SESSION_TAKE, TAKE, WRITE,
+    Request, APPLY, FRESH, JOIN, LEARN, LOOKUP, MOST_BYTES, MOST_WORDS, READ, SESSION_TAKE, TAKE,
+    WRITE,
 };
 use crate::panel::{Transition, MOST_RELAYS};
 use crate::sheets::{sheet_after_take, sheet_of_join, sheet_of_set};
@@ -26,6 +27,7 @@ pub fn large() -> Vec<Request> {
         applied_and_written(&set[..12]),
         vec![elementary(110), elementary(30)],
         longest(),
+        longest_texts(),
     ]
     .concat()
 }
@@ -106,12 +108,30 @@ fn joins(a_set: &[Transition], b_set: &[Transition]) -> Vec<Request> {
 fn applied_and_written(set: &[Transition]) -> Vec<Request> {
     let sheet = sheet_of_set(N as u32, set).words();
     let (words, count) = (widened(&sheet), sheet.len() as u64);
-    let length = sheet_text(N as u32, &sheet).len();
     let apply = |state: u64| made(APPLY, vec![N, state, count], vec![words.clone()]);
-    let write = |room: usize| made(WRITE, vec![N, count], vec![words.clone(), rubbish(room)]);
     let states = [0, 1, 511, 682, 1_023, 1_024];
-    [states.map(apply).to_vec(), vec![write(length), write(length - 1), write(length + 40)]]
-        .concat()
+    let mut requests = states.map(apply).to_vec();
+    let named = named_recording();
+    let plain = b".i 10\n.o 10\n.e\n".to_vec();
+    for (panel, maker) in [(&plain, &plain), (&named, &vec![]), (&plain, &named)] {
+        let length = sheet_text(N as u32, &sheet, panel, maker).len();
+        for room in [length, length - 1, length + 40] {
+            let slices = vec![words.clone(), bytes(panel), bytes(maker), rubbish(room)];
+            requests.push(made(WRITE, vec![N, count], slices));
+        }
+    }
+    requests
+}
+
+/// A recording of ten relays whose names have 16 characters.
+fn named_recording() -> Vec<u8> {
+    let names: Vec<String> = (0..N).map(|relay| format!(" VALVE_OF_TANK_{relay:02}")).collect();
+    let names = names.concat();
+    format!(".i 10\n.o 10\n.ilb{names}\n.ob{names}\n1111111111 0000000000\n.e\n").into_bytes()
+}
+
+fn bytes(text: &[u8]) -> Vec<u64> {
+    text.iter().map(|byte| u64::from(*byte)).collect()
 }
 
 /// All states of a ring of ten cells under an elementary rule, in increasing order.
@@ -132,15 +152,31 @@ fn elementary(rule: u64) -> Request {
 fn longest() -> Vec<Request> {
     let most = MOST_WORDS as usize;
     let row = b"---------- 1010101010\n";
-    let text = [&b".i 10\n.o 10\n"[..], row, row, b".e\n"].concat();
-    let bytes: Vec<u64> = text.iter().map(|byte| u64::from(*byte)).collect();
+    let text = bytes(&[&b".i 10\n.o 10\n"[..], row, row, b".e\n"].concat());
     let comment: Vec<u64> = vec![u64::from(b'#'); MOST_BYTES as usize];
     vec![
         made(FRESH, vec![N], vec![rubbish(most)]),
         made(LEARN, vec![N], vec![vec![0; most], rubbish(most), rubbish(most)]),
-        made(READ, vec![], vec![bytes.clone(), rubbish(2_048)]),
-        made(READ, vec![], vec![bytes, rubbish(2_047)]),
+        made(READ, vec![], vec![text.clone(), rubbish(2_048)]),
+        made(READ, vec![], vec![text, rubbish(2_047)]),
         made(READ, vec![], vec![comment, rubbish(most)]),
-        made(WRITE, vec![N, 0], vec![rubbish(most), rubbish(most)]),
+        made(WRITE, vec![N, 0], vec![rubbish(most), vec![], vec![], rubbish(most)]),
+    ]
+}
+
+/// Names that stand at the end of a text as long as it may be, behind a comment.
+fn longest_texts() -> Vec<Request> {
+    let named = named_recording();
+    let comment = vec![b'#'; MOST_BYTES as usize - named.len() - 1];
+    let names_last = bytes(&[&comment, &b"\n"[..], &named].concat());
+    let plain = bytes(b".i 10\n.o 10\n.e\n");
+    let lookup = |column: u64, panel: &[u64], maker: &[u64]| {
+        made(LOOKUP, vec![column], vec![panel.to_vec(), maker.to_vec()])
+    };
+    vec![
+        lookup(N - 1, &names_last, &[]),
+        lookup(0, &plain, &names_last),
+        made(READ, vec![], vec![names_last.clone(), rubbish(1)]),
+        made(WRITE, vec![N, 0], vec![vec![], plain, names_last, rubbish(400)]),
     ]
 }

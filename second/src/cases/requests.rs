@@ -5,12 +5,12 @@ use super::lending::{
     any_good_sheet, book, count_above, enough, lend, lend_bytes, manner, no_panel, relays,
     room_near, spoil_book, spoil_sheet, successor, transitions, words,
 };
-use super::texts::text;
+use super::texts::{lent_text, text};
 use crate::desk::{
-    shape_of, Request, APPLY, FRESH, JOIN, LEARN, READ, RUN, SESSION_START, SESSION_TAKE, TAKE,
-    WRITE,
+    shape_of, Request, APPLY, FRESH, JOIN, LEARN, LOOKUP, READ, RUN, SESSION_START, SESSION_TAKE,
+    TAKE, WRITE,
 };
-use crate::panel::{is_panel, state_count, Transition, STEP};
+use crate::panel::{is_panel, state_count, Transition, MOST_RELAYS, STEP};
 use crate::session::MOST_TOTAL;
 use crate::sheets::{is_good_sheet, sheet_after_take, sheet_of_join, sheet_of_set};
 use crate::text::{read, rulesheet, sheet_text, PROGRAM_BYTES, PROGRAM_WORDS};
@@ -27,6 +27,7 @@ pub fn request(dice: &mut Dice, call: u64) -> Request {
         READ => request_read(dice),
         WRITE => request_write(dice),
         RUN => request_run(dice),
+        LOOKUP => request_lookup(dice),
         _ => unreachable!("a shape has one of these calls"),
     }
 }
@@ -393,6 +394,7 @@ fn request_write(dice: &mut Dice) -> Request {
     let mut n = relays(dice);
     let set = transitions(dice, n);
     let mut sheet = sheet_for(dice, n, &set);
+    let [panel, maker] = [text_beside(dice, n), text_beside(dice, n)];
     let (mut above, mut fewer) = (false, false);
     for _ in 0..damages(dice) {
         match dice.below(4) {
@@ -405,17 +407,27 @@ fn request_write(dice: &mut Dice) -> Request {
     let (count, slice) = lent_sheet(dice, &sheet, above, fewer);
     let in_use = &sheet[..sheet.len().min(count.min(1 << 20) as usize)];
     let good = is_panel(n) && is_good_sheet(n, in_use);
-    let need = if good { sheet_text(n, in_use).len() } else { 30 };
+    let need = if good { sheet_text(n, in_use, &panel, &maker).len() } else { 30 };
     let room = room_near(dice, need);
-    made(WRITE, vec![n.into(), count], vec![slice, lend_bytes(dice, room)])
+    let slices = vec![slice, bytes(&panel), bytes(&maker), lend_bytes(dice, room)];
+    made(WRITE, vec![n.into(), count], slices)
+}
+
+/// A text to lend beside a sheet, mostly of its size.
+fn text_beside(dice: &mut Dice, n: u32) -> Vec<u8> {
+    let size = if dice.one_in(3) { relays(dice) } else { n };
+    lent_text(dice, size)
+}
+
+fn bytes(text: &[u8]) -> Vec<u64> {
+    text.iter().map(|byte| u64::from(*byte)).collect()
 }
 
 fn request_read(dice: &mut Dice) -> Request {
     let text = text(dice, false);
     let need = words_read(&text).map_or(4, |(_, list)| list.len());
     let room = room_near(dice, need);
-    let bytes = text.iter().map(|byte| u64::from(*byte)).collect();
-    made(READ, vec![], vec![bytes, lend(dice, &[], room)])
+    made(READ, vec![], vec![bytes(&text), lend(dice, &[], room)])
 }
 
 /// The size and the words of a text, if it is accepted.
@@ -434,7 +446,7 @@ fn request_run(dice: &mut Dice) -> Request {
     } else {
         run_rooms(dice, &text)
     };
-    let mut slices = vec![text.iter().map(|byte| u64::from(*byte)).collect()];
+    let mut slices = vec![bytes(&text)];
     for room in &rooms[..3] {
         slices.push(lend(dice, &[], *room));
     }
@@ -464,4 +476,24 @@ fn run_rooms(dice: &mut Dice, text: &[u8]) -> [usize; 4] {
         rooms[3] = dice.place(20);
     }
     rooms
+}
+
+fn request_lookup(dice: &mut Dice) -> Request {
+    let sizes = [any_size(dice), any_size(dice)];
+    let [panel, maker] = sizes.map(|size| lent_text(dice, size));
+    let size = u64::from(*dice.pick(&sizes));
+    // Some of the huge ones are columns by their last 32 bits.
+    let huge = [11, 1 << 32, (1 << 32) + size - 1, 1 << 63, u64::MAX - 1, u64::MAX];
+    let column = match dice.below(10) {
+        0 => size,
+        1 => size + 1,
+        2 => *dice.pick(&huge),
+        _ => dice.below(size),
+    };
+    made(LOOKUP, vec![column], vec![bytes(&panel), bytes(&maker)])
+}
+
+/// Any panel's size, the large ones as often as the small: in a lookup nothing is learned.
+fn any_size(dice: &mut Dice) -> u32 {
+    1 + dice.below(u64::from(MOST_RELAYS)) as u32
 }

@@ -2,7 +2,8 @@
 
 use super::dice::Dice;
 use super::lending::{manner, relays, successor, transitions};
-use crate::panel::state_count;
+use crate::layout::LONGEST_NAME;
+use crate::panel::{state_count, MOST_RELAYS};
 use crate::text::MOST_INPUT;
 
 /// A random text. If it is to be learned, large panels get few states.
@@ -42,9 +43,34 @@ pub fn text(dice: &mut Dice, to_learn: bool) -> Vec<u8> {
     }
 }
 
+/// A random text to look names up in: mostly a recording of n relays, with names or without.
+pub fn lent_text(dice: &mut Dice, n: u32) -> Vec<u8> {
+    match dice.below(16) {
+        0..=7 => {
+            let lines = recording_of(dice, n, true, true);
+            decorated(dice, &lines)
+        }
+        8..=11 => {
+            let lines = recording_of(dice, n, false, true);
+            decorated(dice, &lines)
+        }
+        12..=13 => {
+            let mut lines = recording_of(dice, n, true, true);
+            damage_names(dice, &mut lines);
+            decorated(dice, &lines)
+        }
+        14 => Vec::new(),
+        _ => text(dice, true),
+    }
+}
+
 /// The lines of a recording that is accepted, without needless blanks.
 fn recording(dice: &mut Dice, to_learn: bool) -> Vec<Vec<u8>> {
-    let n = relays(dice);
+    let (n, named) = (relays(dice), dice.one_in(3));
+    recording_of(dice, n, named, to_learn)
+}
+
+fn recording_of(dice: &mut Dice, n: u32, named: bool, to_learn: bool) -> Vec<Vec<u8>> {
     let rows = rows(dice, n, to_learn);
     let mut lines = vec![format!(".i {n}").into_bytes(), format!(".o {n}").into_bytes()];
     if dice.one_in(2) {
@@ -52,6 +78,10 @@ fn recording(dice: &mut Dice, to_learn: bool) -> Vec<Vec<u8>> {
     }
     if dice.one_in(2) {
         lines.push(format!(".p {}", rows.len()).into_bytes());
+    }
+    if named {
+        let names = names(dice, n as usize);
+        lines.extend([name_line(b".ilb", &names), name_line(b".ob", &names)]);
     }
     dice.shuffle(&mut lines);
     lines.extend(rows);
@@ -61,6 +91,29 @@ fn recording(dice: &mut Dice, to_learn: bool) -> Vec<Vec<u8>> {
         lines.insert(dice.place(lines.len() + 1), line);
     }
     lines
+}
+
+fn name_line(key: &[u8], names: &[Vec<u8>]) -> Vec<u8> {
+    [&[key.to_vec()], names].concat().join(&b' ')
+}
+
+/// So many names, different from each other.
+fn names(dice: &mut Dice, count: usize) -> Vec<Vec<u8>> {
+    let mut names = Vec::new();
+    while names.len() < count {
+        let name = name(dice);
+        if !names.contains(&name) {
+            names.push(name);
+        }
+    }
+    names
+}
+
+/// A name, of few different characters so that some names are nearly alike.
+fn name(dice: &mut Dice) -> Vec<u8> {
+    let length = *dice.pick(&[1, 1, 2, 2, 3, 5, LONGEST_NAME - 1, LONGEST_NAME, LONGEST_NAME]);
+    let characters = *dice.pick(&[&b"ab"[..], b"01", b"aA_", b"09AZaz_"]);
+    (0..length).map(|_| *dice.pick(characters)).collect()
 }
 
 /// An empty line or a comment; in a comment any byte may stand.
@@ -122,7 +175,7 @@ fn row(n: u32, input: &[u8], successor: u32) -> Vec<u8> {
 }
 
 /// Lines of the kinds that the layout knows, and some that it does not.
-const KINDS: [&[u8]; 30] = [
+const KINDS: [&[u8]; 37] = [
     b".i 2",
     b".o 2",
     b".i 3",
@@ -149,6 +202,13 @@ const KINDS: [&[u8]; 30] = [
     b"011 000",
     b"1 0",
     b".ilb a b",
+    b".ob a b",
+    b".ilb a c",
+    b".ilb a",
+    b".ob a",
+    b".ilb",
+    b".ob a a",
+    b".phase 11",
     b".i3",
     b"0110",
     b".e 1",
@@ -169,7 +229,7 @@ fn any_lines(dice: &mut Dice) -> Vec<Vec<u8>> {
 fn any_bytes(dice: &mut Dice) -> Vec<u8> {
     let near = dice.one_in(2);
     let byte = |dice: &mut Dice| match near {
-        true => *dice.pick(b".iope01- \t\n#23type fr\r"),
+        true => *dice.pick(b".iopelb01- \t\n#23type fr\r"),
         false => dice.below(256) as u8,
     };
     (0..dice.below(60)).map(|_| byte(dice)).collect()
@@ -248,6 +308,9 @@ fn damage_lines(dice: &mut Dice, lines: &mut Vec<Vec<u8>>) {
     if lines.is_empty() {
         return;
     }
+    if dice.one_in(2) && lines.iter().any(|line| is_name_line(line)) {
+        return damage_names(dice, lines);
+    }
     let (place, other) = (dice.place(lines.len()), dice.place(lines.len()));
     match dice.below(12) {
         0 => {
@@ -267,6 +330,71 @@ fn damage_lines(dice: &mut Dice, lines: &mut Vec<Vec<u8>>) {
         }
         10 => lines[place].retain(|byte| *byte != b' '),
         _ => lines.push(dice.pick(&KINDS).to_vec()),
+    }
+}
+
+fn is_name_line(line: &[u8]) -> bool {
+    line.starts_with(b".ilb") || line.starts_with(b".ob")
+}
+
+/// One change to a name line, to how often it stands or where; the lines have one.
+fn damage_names(dice: &mut Dice, lines: &mut Vec<Vec<u8>>) {
+    let places = (0..lines.len()).filter(|place| is_name_line(&lines[*place]));
+    let place = *dice.pick(&places.collect::<Vec<usize>>());
+    let other = dice.place(lines.len());
+    match dice.below(8) {
+        0 => {
+            lines.remove(place);
+        }
+        1 => lines.insert(other, lines[place].clone()),
+        2 => {
+            let line = lines.remove(place);
+            lines.insert(other, line);
+        }
+        _ => {
+            let mut names = fields(&lines[place]);
+            let key = names.remove(0);
+            change_names(dice, &mut names);
+            lines[place] = name_line(&key, &names);
+            // Both lines alike, some of the time: then only the names themselves are at fault.
+            let both = dice.one_in(3);
+            for line in lines.iter_mut().filter(|line| both && is_name_line(line)) {
+                *line = name_line(&fields(line)[0], &names);
+            }
+        }
+    }
+}
+
+/// The fields of a line that has no needless blanks; at least one.
+fn fields(line: &[u8]) -> Vec<Vec<u8>> {
+    line.split(|byte| *byte == b' ').map(<[u8]>::to_vec).collect()
+}
+
+/// Other names: more or fewer, one of them twice, changed, too long, or with a character that may
+/// not stand there.
+fn change_names(dice: &mut Dice, names: &mut Vec<Vec<u8>>) {
+    if names.is_empty() {
+        return names.push(name(dice));
+    }
+    let (place, other) = (dice.place(names.len()), dice.place(names.len()));
+    let at = dice.place(names[place].len().max(1));
+    match dice.below(10) {
+        0 => names.push(name(dice)),
+        1 => {
+            names.remove(place);
+        }
+        2 => names.clear(),
+        3 => *names = self::names(dice, MOST_RELAYS as usize + 1),
+        4 => names[place] = names[other].clone(),
+        5 => names.swap(place, other),
+        6 => names[place].resize(LONGEST_NAME + 1, b'x'),
+        7 => names[place].insert(at, *dice.pick(b"-./:@[^`{~,\r\0\x0b\x0c\x80\xe9\xff")),
+        8 => names[place] = name(dice),
+        _ => {
+            if let Some(byte) = names[place].get_mut(at) {
+                *byte = *dice.pick(b"aAbBzZ09_");
+            }
+        }
     }
 }
 
@@ -296,7 +424,8 @@ fn change_number(dice: &mut Dice, lines: &mut [Vec<u8>]) {
         "18446744073709551616",
         &huge,
     ]);
-    let of_key = |line: &&mut Vec<u8>| line.starts_with(key.as_bytes());
+    // With the blank: `.ilb` and `.ob` have names, no number.
+    let of_key = |line: &&mut Vec<u8>| line.starts_with(format!("{key} ").as_bytes());
     if let Some(line) = lines.iter_mut().find(of_key) {
         *line = format!("{key} {number}").into_bytes();
     }

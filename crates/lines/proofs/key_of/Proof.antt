@@ -11,7 +11,11 @@ returns c = rw (sym (c .before .same-bytes .ensures) ∙ c .if1 .taken)
 
 returns-2 : tie.Need-returns-2
 unfolding keyOf
-returns-2 c = rw (sym (c .before .before .before .before .same-bytes .ensures) ∙ c .before .before .before .if1 .left, sym (c .before .same-bytes2 .ensures) ∙ c .if2 .taken)
+returns-2 c =
+    let at-same-bytes2 = c .before in
+    let at-if1 = at-same-bytes2 .before .before in
+    let at-same-bytes = at-if1 .before in
+    rw (sym (at-same-bytes .same-bytes .ensures) ∙ at-if1 .if1 .left, sym (at-same-bytes2 .same-bytes2 .ensures) ∙ c .if2 .taken)
 
 returns-3 : tie.Need-returns-3
 unfolding keyOf
@@ -38,8 +42,7 @@ returns-4 c =
 returns-5 : tie.Need-returns-5
 unfolding keyOf
 returns-5 c =
-    let at-same-bytes5 = c .before in
-    let at-if4 = at-same-bytes5 .before .before in
+    let at-if4 = c .before in
     let at-same-bytes4 = at-if4 .before in
     let at-if3 = at-same-bytes4 .before .before in
     let at-same-bytes3 = at-if3 .before in
@@ -47,39 +50,7 @@ returns-5 c =
     let at-same-bytes2 = at-if2 .before in
     let at-if1 = at-same-bytes2 .before .before in
     let at-same-bytes = at-if1 .before in
-    rw (sym (at-same-bytes .same-bytes .ensures) ∙ at-if1 .if1 .left, sym (at-same-bytes2 .same-bytes2 .ensures) ∙ at-if2 .if2 .left, sym (at-same-bytes3 .same-bytes3 .ensures) ∙ at-if3 .if3 .left, sym (at-same-bytes4 .same-bytes4 .ensures) ∙ at-if4 .if4 .left, sym (at-same-bytes5 .same-bytes5 .ensures) ∙ c .if5 .taken)
-
-returns-6 : tie.Need-returns-6
-unfolding keyOf
-returns-6 c =
-    let at-same-bytes6 = c .before in
-    let at-if5 = at-same-bytes6 .before .before in
-    let at-same-bytes5 = at-if5 .before in
-    let at-if4 = at-same-bytes5 .before .before in
-    let at-same-bytes4 = at-if4 .before in
-    let at-if3 = at-same-bytes4 .before .before in
-    let at-same-bytes3 = at-if3 .before in
-    let at-if2 = at-same-bytes3 .before .before in
-    let at-same-bytes2 = at-if2 .before in
-    let at-if1 = at-same-bytes2 .before .before in
-    let at-same-bytes = at-if1 .before in
-    rw (sym (at-same-bytes .same-bytes .ensures) ∙ at-if1 .if1 .left, sym (at-same-bytes2 .same-bytes2 .ensures) ∙ at-if2 .if2 .left, sym (at-same-bytes3 .same-bytes3 .ensures) ∙ at-if3 .if3 .left, sym (at-same-bytes4 .same-bytes4 .ensures) ∙ at-if4 .if4 .left, sym (at-same-bytes5 .same-bytes5 .ensures) ∙ at-if5 .if5 .left, sym (at-same-bytes6 .same-bytes6 .ensures) ∙ c .if6 .taken)
-
-returns-7 : tie.Need-returns-7
-unfolding keyOf
-returns-7 c =
-    let at-same-bytes6 = c .before in
-    let at-if5 = at-same-bytes6 .before .before in
-    let at-same-bytes5 = at-if5 .before in
-    let at-if4 = at-same-bytes5 .before .before in
-    let at-same-bytes4 = at-if4 .before in
-    let at-if3 = at-same-bytes4 .before .before in
-    let at-same-bytes3 = at-if3 .before in
-    let at-if2 = at-same-bytes3 .before .before in
-    let at-same-bytes2 = at-if2 .before in
-    let at-if1 = at-same-bytes2 .before .before in
-    let at-same-bytes = at-if1 .before in
-    rw (sym (at-same-bytes .same-bytes .ensures) ∙ at-if1 .if1 .left, sym (at-same-bytes2 .same-bytes2 .ensures) ∙ at-if2 .if2 .left, sym (at-same-bytes3 .same-bytes3 .ensures) ∙ at-if3 .if3 .left, sym (at-same-bytes4 .same-bytes4 .ensures) ∙ at-if4 .if4 .left, sym (at-same-bytes5 .same-bytes5 .ensures) ∙ at-if5 .if5 .left, sym (at-same-bytes6 .same-bytes6 .ensures) ∙ c .if6 .left)
+    rw (sym (at-same-bytes .same-bytes .ensures) ∙ at-if1 .if1 .left, sym (at-same-bytes2 .same-bytes2 .ensures) ∙ at-if2 .if2 .left, sym (at-same-bytes3 .same-bytes3 .ensures) ∙ at-if3 .if3 .left, sym (at-same-bytes4 .same-bytes4 .ensures) ∙ at-if4 .if4 .left) (c .other-key .ensures)
 
 pub key-of-spec : {M : Type 1} → statement M
 key-of-spec =
@@ -97,10 +68,5 @@ key-of-spec =
     (λ c. search needs)
     (λ c κs. search needs)
     returns-4
-    (λ c. search needs)
     (λ c κs. search needs)
-    returns-5
-    (λ c. search needs)
-    (λ c κs. search needs)
-    returns-6
-    returns-7)
+    returns-5)

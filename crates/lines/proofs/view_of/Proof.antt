@@ -4,8 +4,8 @@ use borrow.Author.Needs.{needs}
 use Rattle.lines.proofs.view_of.Statement.{statement}
 use Rattle.lines.proofs.view_of.Tie as tie
 
-returns-5 : tie.Need-returns-5
-returns-5 c = rw (c .before .l .given .1) refl
+returns-6 : tie.Need-returns-6
+returns-6 c = rw (c .before .l .given .1) refl
 
 pub view-of-spec : {M : Type 1} → statement M
 view-of-spec =
@@ -22,6 +22,8 @@ view-of-spec =
     (λ c. search needs)
     (λ c. search needs)
     (λ c. search needs)
-    returns-5
+    (λ c. search needs)
+    (λ c. search needs)
+    returns-6
     (λ c. search needs)
     (λ c. search needs))

@@ -1,7 +1,10 @@
 -- `writing::write_code` meets its contract.
+use Rattle.fields.specs.Fields.{fieldsIn}
 use Rattle.writing.proofs.WriteLaws.{size-small, code-2, code-3, code-5, code-12, code-0}
 use borrow.Author.Needs.{needs}
 use borrow.Author.Tests.{not-true, not-false}
+use denote.Ref.{now}
+use lib.ListN.{take}
 use lib.Seq.{length-take-le}
 use mathlib.Core.Path.{sym, _∙_}
 use native.Mathlib.Omega.{arith}
@@ -9,26 +12,42 @@ use Rattle.writing.proofs.write_code.Statement.{statement}
 use Rattle.writing.proofs.write_code.Tie as tie
 
 returns : tie.Need-returns
-returns c = code-2 _ _ _ _ (sym (c .before .is-panel-size .ensures) ∙ not-true (c .before .is-panel-size .result) (c .if1 .taken))
+returns c =
+    let asked = c .before in
+    let start = asked .before .before .before in
+    code-2 _ (take (start .args .n) (fieldsIn (now (start .args .names)))) _ _ _ (sym (asked .is-panel-size .ensures) ∙ not-true (asked .is-panel-size .result) (c .if1 .taken))
 
 returns-2 : tie.Need-returns-2
-returns-2 c = code-3 _ _ _ _ (sym (c .before .before .is-panel-size .ensures) ∙ not-false (c .before .before .is-panel-size .result) (c .before .if1 .left)) (c .if2 .taken)
+returns-2 c =
+    let sized = c .before in
+    let asked = sized .before in
+    let start = asked .before .before .before in
+    code-3 _ (take (start .args .n) (fieldsIn (now (start .args .names)))) _ _ _ (sym (asked .is-panel-size .ensures) ∙ not-false (asked .is-panel-size .result) (sized .if1 .left)) (c .if2 .taken)
 
 slice-aggregate-is-good-sheet : tie.Need-slice-aggregate-is-good-sheet
 slice-aggregate-is-good-sheet c = sym (length-take-le _ _ (c .before .if2 .left))
 
 is-good-sheet-requires : tie.Need-is-good-sheet-requires
-is-good-sheet-requires c κs = size-small _ (sym (c .before .before .before .is-panel-size .ensures) ∙ not-false (c .before .before .before .is-panel-size .result) (c .before .before .if1 .left))
+is-good-sheet-requires c κs =
+    let sized = c .before .before in
+    let asked = sized .before in
+    size-small _ (sym (asked .is-panel-size .ensures) ∙ not-false (asked .is-panel-size .result) (sized .if1 .left))
 
 returns-3 : tie.Need-returns-3
 returns-3 c =
-    let the-is-panel-size = c .before .before .before .before .before .is-panel-size in
-    code-5 _ _ _ _ (sym (the-is-panel-size .ensures) ∙ not-false (the-is-panel-size .result) (c .before .before .before .before .if1 .left)) (c .before .before .before .if2 .left) (sym (c .before .is-good-sheet .ensures) ∙ not-true (c .before .is-good-sheet .result) (c .if3 .taken))
+    let judged = c .before in
+    let counted = judged .before .before in
+    let sized = counted .before in
+    let asked = sized .before in
+    let start = asked .before .before .before in
+    code-5 _ (take (start .args .n) (fieldsIn (now (start .args .names)))) _ _ _ (sym (asked .is-panel-size .ensures) ∙ not-false (asked .is-panel-size .result) (sized .if1 .left)) (counted .if2 .left) (sym (judged .is-good-sheet .ensures) ∙ not-true (judged .is-good-sheet .result) (c .if3 .taken))
 
 text-fits-requires : tie.Need-text-fits-requires
 text-fits-requires c κs =
     let sized = c .before .before .before .before .before .before in
-    (size-small _ (sym (sized .before .is-panel-size .ensures) ∙ not-false (sized .before .is-panel-size .result) (sized .if1 .left)), omega arith, omega arith)
+    let asked = sized .before in
+    let start = asked .before .before .before in
+    (size-small _ (sym (asked .is-panel-size .ensures) ∙ not-false (asked .is-panel-size .result) (sized .if1 .left)), omega arith, omega arith, start .pre)
 
 returns-4 : tie.Need-returns-4
 returns-4 c =
@@ -37,7 +56,8 @@ returns-4 c =
     let counted = good .before .before .before in
     let sized = counted .before in
     let asked = sized .before in
-    code-12 _ _ _ _ (sym (asked .is-panel-size .ensures) ∙ not-false (asked .is-panel-size .result) (sized .if1 .left)) (counted .if2 .left) (sym (good .before .is-good-sheet .ensures) ∙ not-false (good .before .is-good-sheet .result) (good .if3 .left)) _ (tabled .sheet-table .ensures) (sym (c .before .text-fits .ensures) ∙ not-true (c .before .text-fits .result) (c .if4 .taken))
+    let start = asked .before .before .before in
+    code-12 _ (take (start .args .n) (fieldsIn (now (start .args .names)))) _ _ _ (sym (asked .is-panel-size .ensures) ∙ not-false (asked .is-panel-size .result) (sized .if1 .left)) (counted .if2 .left) (sym (good .before .is-good-sheet .ensures) ∙ not-false (good .before .is-good-sheet .result) (good .if3 .left)) _ (tabled .sheet-table .ensures) (sym (c .before .text-fits .ensures) ∙ not-true (c .before .text-fits .result) (c .if4 .taken))
 
 returns-5 : tie.Need-returns-5
 returns-5 c =
@@ -46,7 +66,8 @@ returns-5 c =
     let counted = good .before .before .before in
     let sized = counted .before in
     let asked = sized .before in
-    code-0 _ _ _ _ (sym (asked .is-panel-size .ensures) ∙ not-false (asked .is-panel-size .result) (sized .if1 .left)) (counted .if2 .left) (sym (good .before .is-good-sheet .ensures) ∙ not-false (good .before .is-good-sheet .result) (good .if3 .left)) _ (tabled .sheet-table .ensures) (sym (c .before .text-fits .ensures) ∙ not-false (c .before .text-fits .result) (c .if4 .left))
+    let start = asked .before .before .before in
+    code-0 _ (take (start .args .n) (fieldsIn (now (start .args .names)))) _ _ _ (sym (asked .is-panel-size .ensures) ∙ not-false (asked .is-panel-size .result) (sized .if1 .left)) (counted .if2 .left) (sym (good .before .is-good-sheet .ensures) ∙ not-false (good .before .is-good-sheet .result) (good .if3 .left)) _ (tabled .sheet-table .ensures) (sym (c .before .text-fits .ensures) ∙ not-false (c .before .text-fits .result) (c .if4 .left))
 
 pub write-code-spec : {M : Type 1} → statement M
 write-code-spec =
