@@ -11,7 +11,7 @@ use Rattle.fields.specs.Texts.{body, linesOf}
 use Rattle.fields.specs.Fields.{fieldsFrom, fieldsIn}
 use Rattle.fields.specs.Values.{cubeOf, digits, numberOf}
 use Rattle.fields.proofs.JoinLaws.{lines-no-feeds}
-use Rattle.names.specs.Names.{nameByte, allName, nameOk, holds, goodNames, countFrom, namesCount, sameFields, namesIn}
+use Rattle.names.specs.Names.{nameByte, allName, nameOk, holds, goodNames, namesCount, sameFields, namesIn}
 use Rattle.lines.specs.Lines.{otherKey, keyOf, typedOf, rowLine, classOf, ofFields, lineOf}
 use Rattle.lines.specs.declared.Part.{Part}
 use Rattle.lines.specs.declared.Part.the-variants.{Ins, Outs}
@@ -171,11 +171,11 @@ named-texts =
     ∷ []
 
 pub texts-judged : Judged texts
-unfolding markOf run same body linesOf fieldsFrom fieldsIn cubeOf digits numberOf otherKey keyOf typedOf rowLine classOf ofFields lineOf nameByte allName nameOk holds goodNames countFrom namesCount sameFields namesIn lacks lacksNone readyOf rowFits openOf fitsOf headerAllowed endAllowed rowAllowed named allowedBy allowedAt nextAt finishOf judgeLines judgeOf
+unfolding markOf run same body linesOf fieldsFrom fieldsIn cubeOf digits numberOf otherKey keyOf typedOf rowLine classOf ofFields lineOf nameByte allName nameOk holds goodNames namesCount sameFields namesIn lacks lacksNone readyOf rowFits openOf fitsOf headerAllowed endAllowed rowAllowed named allowedBy allowedAt nextAt finishOf judgeLines judgeOf
 texts-judged = (refl, (refl, (refl, (refl, (refl, (refl, (refl, (refl, (refl, (refl, (refl, (refl, (refl, (refl, (refl, (refl, (refl, (refl, (refl, (refl, (refl, (refl, tt))))))))))))))))))))))
 
 pub named-judged : Judged named-texts
-unfolding markOf run same body linesOf fieldsFrom fieldsIn cubeOf digits numberOf otherKey keyOf typedOf rowLine classOf ofFields lineOf nameByte allName nameOk holds goodNames countFrom namesCount sameFields namesIn lacks lacksNone readyOf rowFits openOf fitsOf headerAllowed endAllowed rowAllowed named allowedBy allowedAt nextAt finishOf judgeLines judgeOf
+unfolding markOf run same body linesOf fieldsFrom fieldsIn cubeOf digits numberOf otherKey keyOf typedOf rowLine classOf ofFields lineOf nameByte allName nameOk holds goodNames namesCount sameFields namesIn lacks lacksNone readyOf rowFits openOf fitsOf headerAllowed endAllowed rowAllowed named allowedBy allowedAt nextAt finishOf judgeLines judgeOf
 named-judged = (refl, (refl, (refl, (refl, (refl, (refl, (refl, (refl, (refl, (refl, (refl, (refl, tt))))))))))))
 
 -- what a verdict means: the text is a recording for n relays, or k is the place of its fault
@@ -253,7 +253,7 @@ abbrev headers : List (List ℕ)
 headers = (46 ∷ 105 ∷ 32 ∷ 49 ∷ []) ∷ (46 ∷ 111 ∷ 32 ∷ 49 ∷ []) ∷ (46 ∷ 105 ∷ 108 ∷ 98 ∷ 32 ∷ 65 ∷ []) ∷ (46 ∷ 111 ∷ 98 ∷ 32 ∷ 65 ∷ 35 ∷ 66 ∷ []) ∷ []
 
 headers-once : (h : Header) → times h headers ≤ 1
-unfolding times markOf run same body fieldsFrom fieldsIn digits numberOf otherKey keyOf typedOf classOf ofFields lineOf nameByte allName nameOk holds goodNames countFrom namesCount
+unfolding times markOf run same body fieldsFrom fieldsIn digits numberOf otherKey keyOf typedOf classOf ofFields lineOf nameByte allName nameOk holds goodNames namesCount
 headers-once (Size Ins) = omega arith
 headers-once (Size Outs) = omega arith
 headers-once (Names Ins) = omega arith
@@ -262,16 +262,16 @@ headers-once TypeWord = omega arith
 headers-once Count = omega arith
 
 headers-sized : (p : Part) → times (Size p) headers ≡ 1
-unfolding times markOf run same body fieldsFrom fieldsIn digits numberOf otherKey keyOf typedOf classOf ofFields lineOf nameByte allName nameOk holds goodNames countFrom namesCount
+unfolding times markOf run same body fieldsFrom fieldsIn digits numberOf otherKey keyOf typedOf classOf ofFields lineOf nameByte allName nameOk holds goodNames namesCount
 headers-sized Ins = refl
 headers-sized Outs = refl
 
 headers-both : times (Names Ins) headers ≡ times (Names Outs) headers
-unfolding times markOf run same body fieldsFrom fieldsIn digits numberOf otherKey keyOf typedOf classOf ofFields lineOf nameByte allName nameOk holds goodNames countFrom namesCount
+unfolding times markOf run same body fieldsFrom fieldsIn digits numberOf otherKey keyOf typedOf classOf ofFields lineOf nameByte allName nameOk holds goodNames namesCount
 headers-both = refl
 
 pub named-accepted : Accepted recording 1 named-whole
-unfolding markOf run same body linesOf fieldsFrom fieldsIn cubeOf digits numberOf otherKey keyOf typedOf rowLine classOf ofFields lineOf nameByte allName nameOk holds goodNames countFrom namesCount namesIn
+unfolding markOf run same body linesOf fieldsFrom fieldsIn cubeOf digits numberOf otherKey keyOf typedOf rowLine classOf ofFields lineOf nameByte allName nameOk holds goodNames namesCount namesIn
 named-accepted =
     record {
       top = headers;
@@ -292,7 +292,7 @@ named-accepted =
 
 -- the one has name lines, the other has none
 pub named-stands : times (Names Ins) (named-accepted .top) ≡ 1
-unfolding named-accepted times markOf run same body fieldsFrom fieldsIn digits numberOf otherKey keyOf typedOf classOf ofFields lineOf nameByte allName nameOk holds goodNames countFrom namesCount
+unfolding named-accepted times markOf run same body fieldsFrom fieldsIn digits numberOf otherKey keyOf typedOf classOf ofFields lineOf nameByte allName nameOk holds goodNames namesCount
 named-stands = refl
 
 pub none-stands : times (Names Ins) (whole-accepted .top) ≡ 0
@@ -303,12 +303,12 @@ none-stands = refl
 
 -- `.i 1` and `.o 1` begin an accepted text
 pub sizes-begin : Begins recording (linesOf (i1 ++ o1))
-unfolding markOf run same body linesOf fieldsFrom fieldsIn cubeOf digits numberOf otherKey keyOf typedOf rowLine classOf ofFields lineOf nameByte allName nameOk holds goodNames countFrom namesCount sameFields namesIn lacks lacksNone readyOf rowFits openOf fitsOf headerAllowed endAllowed rowAllowed named allowedBy allowedAt nextAt allPass
+unfolding markOf run same body linesOf fieldsFrom fieldsIn cubeOf digits numberOf otherKey keyOf typedOf rowLine classOf ofFields lineOf nameByte allName nameOk holds goodNames namesCount sameFields namesIn lacks lacksNone readyOf rowFits openOf fitsOf headerAllowed endAllowed rowAllowed named allowedBy allowedAt nextAt allPass
 sizes-begin = passes-begins recording (linesOf (i1 ++ o1)) (lines-no-feeds (i1 ++ o1)) refl
 
 -- a header after a row
 pub header-faulty : FaultyLine recording (i1 ++ o1 ++ row ++ fr ++ end) 4
-unfolding markOf run same body linesOf fieldsFrom fieldsIn cubeOf digits numberOf otherKey keyOf typedOf rowLine classOf ofFields lineOf nameByte allName nameOk holds goodNames countFrom namesCount sameFields namesIn lacks lacksNone readyOf rowFits openOf fitsOf headerAllowed endAllowed rowAllowed named allowedBy allowedAt nextAt allPass
+unfolding markOf run same body linesOf fieldsFrom fieldsIn cubeOf digits numberOf otherKey keyOf typedOf rowLine classOf ofFields lineOf nameByte allName nameOk holds goodNames namesCount sameFields namesIn lacks lacksNone readyOf rowFits openOf fitsOf headerAllowed endAllowed rowAllowed named allowedBy allowedAt nextAt allPass
 header-faulty =
     record {
       before = linesOf (i1 ++ o1 ++ row);
@@ -321,12 +321,12 @@ header-faulty =
     }
 
 pub end-missing : EndMissing recording (i1 ++ o1 ++ row) 4
-unfolding markOf run same body linesOf fieldsFrom fieldsIn cubeOf digits numberOf otherKey keyOf typedOf rowLine classOf ofFields lineOf nameByte allName nameOk holds goodNames countFrom namesCount sameFields namesIn lacks lacksNone readyOf rowFits openOf fitsOf headerAllowed endAllowed rowAllowed named allowedBy allowedAt nextAt allPass endIn
+unfolding markOf run same body linesOf fieldsFrom fieldsIn cubeOf digits numberOf otherKey keyOf typedOf rowLine classOf ofFields lineOf nameByte allName nameOk holds goodNames namesCount sameFields namesIn lacks lacksNone readyOf rowFits openOf fitsOf headerAllowed endAllowed rowAllowed named allowedBy allowedAt nextAt allPass endIn
 end-missing =
     record { begins = passes-begins recording (linesOf (i1 ++ o1 ++ row)) (lines-no-feeds (i1 ++ o1 ++ row)) refl; endless = refl; number = refl }
 
 pub count-wrong : WrongCount recording (i1 ++ p2 ++ o1 ++ row ++ end) 2
-unfolding markOf run same body linesOf fieldsFrom fieldsIn cubeOf digits numberOf otherKey keyOf typedOf rowLine classOf ofFields lineOf nameByte allName nameOk holds goodNames countFrom namesCount sameFields namesIn lacks lacksNone readyOf rowFits openOf fitsOf headerAllowed endAllowed rowAllowed named allowedBy allowedAt nextAt allPass endIn rowsIn
+unfolding markOf run same body linesOf fieldsFrom fieldsIn cubeOf digits numberOf otherKey keyOf typedOf rowLine classOf ofFields lineOf nameByte allName nameOk holds goodNames namesCount sameFields namesIn lacks lacksNone readyOf rowFits openOf fitsOf headerAllowed endAllowed rowAllowed named allowedBy allowedAt nextAt allPass endIn rowsIn
 count-wrong =
     record {
       before = linesOf i1;

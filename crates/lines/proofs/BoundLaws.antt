@@ -1,5 +1,5 @@
 -- Every line that is read keeps to its bounds.
-use Prim.Native.Nat.{ℕ, _+_, _^_, _≤_}
+use Prim.Native.Nat.{ℕ, _^_, _≤_}
 use mathlib.Core.Path.{_≡_, refl, sym}
 use mathlib.Core.List.{List, [], _∷_}
 use mathlib.Core.Bool.{Bool, true, false, cond}
@@ -19,7 +19,7 @@ use Rattle.fields.specs.declared.Number.the-variants.{Value, NoNumber}
 use Rattle.fields.proofs.FieldLaws.{ne-lt}
 use Rattle.fields.proofs.ValueLaws.{Under, cube-under}
 use Rattle.lines.specs.Lines.{keyOf, columnsOf, sizedOf, namedOf, typedOf, countOf, stopOf, keyLine, rowOf, rowLine, startLine, classOf, ofFields, lineOf, keepLine, viewOf}
-use Rattle.names.specs.Names.{goodNames, countFrom, namesCount, namesIn, tailOf}
+use Rattle.names.specs.Names.{goodNames, namesCount, namesIn, tailOf}
 use Rattle.fields.specs.Texts.{body}
 use Rattle.fields.specs.Fields.{fieldsIn}
 use Rattle.lines.specs.Bounds.{RowOk, LineOk, NamesOk, ViewOk}
@@ -60,8 +60,8 @@ module _ (ns : List (List ℕ)) where
       few false e = some (eqb v 0) refl (ltb-false 10 v e)
 
   said-names : (p : Part) → Said ns (namedOf p (columnsOf (namesCount ns)))
-  unfolding namesCount countFrom
-  said-names p = go (goodNames ns) refl (0 + length ns) (omega arith)
+  unfolding namesCount
+  said-names p = go (goodNames ns) refl (length ns) refl
     where
       some : (v : ℕ) → goodNames ns ≡ true → length ns ≡ v → v ≤ 10 → (t : Bool) → eqb v 0 ≡ t → Said ns (cond t Fault (Named p v))
       some v g q h true e = faulty

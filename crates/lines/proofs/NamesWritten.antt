@@ -1,31 +1,26 @@
 -- What a name line says that is written by rule: `.ilb` or `.ob`, and each name after one space.
-use Prim.Native.Nat.{ℕ, _+_, _-_, _≤_}
-use mathlib.Core.Path.{_≡_, refl, sym, _∙_, ap}
-use mathlib.Core.List.{List, [], _∷_, _++_, append-nil, append-assoc}
-use mathlib.Core.Bool.{Bool, true, false, cond, false≢true}
+use Prim.Native.Nat.{ℕ, _-_, _≤_}
+use mathlib.Core.Path.{_≡_, refl, _∙_, ap}
+use mathlib.Core.List.{List, [], _∷_}
+use mathlib.Core.Bool.{Bool, true, false, cond, _&&_, _||_, false≢true}
 use native.Mathlib.Omega.{arith}
-use native.Mathlib.Nat.{zero-add}
-use lib.Dec.{eqb, leb, ltb}
-use lib.ListN.{length, take}
-use borrow.Author.Tests.{le-leb, ltb-false, ne-eqb, le-ltb, eqb-false}
+use lib.Dec.{eqb, leb}
+use lib.ListN.{length}
+use borrow.Author.Tests.{le-leb, leb-true, eqb-true, ne-eqb, le-ltb}
 use Rattle.fields.specs.Bytes.{markOf, spaceMark, hashMark, feedMark, run, same}
 use Rattle.fields.specs.Texts.{body}
-use Rattle.fields.specs.Fields.{close, fieldsFrom, fieldsIn}
-use Rattle.fields.specs.declared.Stretch.the-variants.{Body}
-use Rattle.fields.specs.declared.Mark.{Mark}
+use Rattle.fields.specs.Fields.{fieldsFrom, fieldsIn}
 use Rattle.fields.specs.declared.Mark.the-variants.{Digit, Other}
 use Rattle.fields.specs.declared.Number.{Number}
-use Rattle.fields.specs.declared.Number.the-variants.{Value, NoNumber}
-use Rattle.fields.proofs.FieldLaws.{ne-lt}
+use Rattle.fields.specs.declared.Number.the-variants.{Value}
 use Rattle.fields.proofs.JoinLaws.{NoFeed}
-use Rattle.names.specs.Names.{nameByte, goodNames, countFrom, namesCount, namesIn, OfName, Names, spaced}
+use Rattle.names.specs.Names.{nameByte, goodNames, namesCount, namesIn, OfName, Names, spaced}
 use Rattle.names.proofs.Meaning.{good-iff}
 use Rattle.lines.proofs.Clear.{Clear, NoHash, no-hash-body, clear-no-hash, clear-no-feed, close-some, clear-field}
-use Rattle.lines.specs.Lines.{otherKey, keyOf, keyLine, columnsOf, namedOf, classOf, ofFields, lineOf}
+use Rattle.lines.specs.Lines.{keyOf, columnsOf, namedOf, classOf, ofFields, lineOf}
 use Rattle.lines.specs.declared.Part.{Part}
 use Rattle.lines.specs.declared.Part.the-variants.{Ins, Outs}
-use Rattle.lines.specs.declared.Line.{Line}
-use Rattle.lines.specs.declared.Line.the-variants.{Named, Fault}
+use Rattle.lines.specs.declared.Line.the-variants.{Named}
 
 -- ---- a name is clear
 
@@ -33,14 +28,22 @@ digit-or-other : (t : Bool) (d : ℕ) → (spaceMark (cond t (Digit d) Other) �
 digit-or-other true d = (refl, refl, refl)
 digit-or-other false d = (refl, refl, refl)
 
--- the first test of `nameByte` failed: every byte of a name is at least `0`
-past-first : (t r : Bool) → cond t false r ≡ true → t ≡ false
-past-first true r f = absurd (false≢true f)
-past-first false r f = refl
+-- every byte of a name is at least `0`
+least-byte : (b : ℕ) → nameByte b ≡ true → 48 ≤ b
+unfolding nameByte
+least-byte b h = go (leb 48 b) refl (leb 65 b) refl (eqb b 95) refl (leb 97 b) refl h
+  where
+    go : (x : Bool) → leb 48 b ≡ x → (y : Bool) → leb 65 b ≡ y → (z : Bool) → eqb b 95 ≡ z → (u : Bool) → leb 97 b ≡ u
+        → ((x && leb b 57) || ((y && leb b 90) || (z || (u && leb b 122)))) ≡ true → 48 ≤ b
+    go true e y f z g u k h = leb-true 48 b e
+    go false e true f z g u k h = omega (arith, leb-true 65 b f)
+    go false e false f true g u k h = omega (arith, eqb-true b 95 g)
+    go false e false f false g true k h = omega (arith, leb-true 97 b k)
+    go false e false f false g false k h = absurd (false≢true h)
 
 clear-byte : (b : ℕ) → nameByte b ≡ true → (spaceMark (markOf b) ≡ false) × (hashMark (markOf b) ≡ false) × (feedMark (markOf b) ≡ false)
-unfolding nameByte markOf
-clear-byte b h = rw (le-leb 48 b (ltb-false b 48 (past-first (ltb b 48) _ h))) (digit-or-other (leb b 57) (b - 48))
+unfolding markOf
+clear-byte b h = rw (le-leb 48 b (least-byte b h)) (digit-or-other (leb b 57) (b - 48))
 
 clear-name : (w : List ℕ) → OfName w → Clear w
 clear-name [] h = tt
@@ -92,8 +95,8 @@ module _ (ns : List (List ℕ)) (g : goodNames ns ≡ true) where
   names-no-feed Outs = (refl, (refl, (refl, spaced-no-feed ns names)))
 
   counted : namesCount ns ≡ Value (length ns)
-  unfolding namesCount countFrom
-  counted = rw g (ap Value (zero-add (length ns)))
+  unfolding namesCount
+  counted = rw g refl
 
   named-of : (p : Part) → 1 ≤ length ns → length ns ≤ 10 → namedOf p (columnsOf (namesCount ns)) ≡ Named p (length ns)
   named-of p h k = ap (λ (x : Number). namedOf p (columnsOf x)) counted ∙ rw (le-ltb 10 (length ns) k, ne-eqb (length ns) 0 (nope (length ns) h))

@@ -1,9 +1,9 @@
 -- The names of a name line: the fields after its first, as tests and as what they say.
-use Prim.Native.Nat.{ℕ, _+_, _-_, _≤_}
+use Prim.Native.Nat.{ℕ, _-_, _≤_}
 use mathlib.Core.Path.{_≡_}
 use mathlib.Core.List.{List, [], _∷_, _++_}
 use mathlib.Core.Logic.{_⊎_}
-use mathlib.Core.Bool.{Bool, true, false, cond}
+use mathlib.Core.Bool.{Bool, true, false, cond, _&&_, _||_}
 use lib.Dec.{eqb, leb, ltb}
 use lib.ListN.{length, take, drop}
 use Rattle.fields.specs.Bytes.{same}
@@ -13,16 +13,13 @@ use Rattle.fields.specs.declared.Span.{Span}
 use Rattle.fields.specs.declared.Number.{Number}
 use Rattle.fields.specs.declared.Number.the-variants.{Value, NoNumber}
 
+-- a byte is one of lo to hi
+abbrev pub inRange : ℕ → ℕ → ℕ → Bool
+inRange lo hi b = leb lo b && leb b hi
+
 -- a byte of a name: `0` to `9`, `A` to `Z`, `_`, `a` to `z`
 unfoldable pub nameByte : ℕ → Bool
-nameByte b =
-    cond (ltb b 48) false
-    (cond (leb b 57) true
-    (cond (ltb b 65) false
-    (cond (leb b 90) true
-    (cond (eqb b 95) true
-    (cond (ltb b 97) false
-    (leb b 122))))))
+nameByte b = inRange 48 57 b || (inRange 65 90 b || (eqb b 95 || inRange 97 122 b))
 
 -- every byte is one
 unfoldable pub allName : List ℕ → Bool
@@ -43,13 +40,9 @@ unfoldable pub goodNames : List (List ℕ) → Bool
 goodNames [] = true
 goodNames (w ∷ ws) = cond (nameOk w) (cond (holds w ws) false (goodNames ws)) false
 
--- how many names there are, n having been counted before them
-unfoldable pub countFrom : ℕ → List (List ℕ) → Number
-countFrom n ws = cond (goodNames ws) (Value (n + length ws)) NoNumber
-
--- how many names there are
+-- how many names there are, if they are good
 unfoldable pub namesCount : List (List ℕ) → Number
-namesCount ws = countFrom 0 ws
+namesCount ws = cond (goodNames ws) (Value (length ws)) NoNumber
 
 -- two lists of fields are equal, one by one
 unfoldable pub sameFields : List (List ℕ) → List (List ℕ) → Bool

@@ -6,32 +6,32 @@ ghost use mathlib.Core.Path.{_≡_};
 ghost use Prim.Native.Nat.{_≤_};
 ghost use lib.ListN.{length};
 ghost use Rattle.fields.specs.Fields.{fieldsIn};
-ghost use Rattle.names.specs.Names.{nameByte, nameOk, holds, namesCount, sameFields, namesIn, NamesAt};
+ghost use Rattle.names.specs.Names.{inRange, nameByte, nameOk, holds, namesCount, sameFields, namesIn, NamesAt};
 ghost use Rattle.names.specs.Spans.{fieldAt, nameSpan, SpanIs};
+
+fn in_range(lo: u8, hi: u8, b: u8) -> bool
+    ensures { λ r. ⌜ r ≡ inRange lo hi b ⌝ }
+{
+    if b < lo {
+        return false;
+    }
+    b <= hi
+}
 
 // A letter, a digit or an underscore.
 fn name_byte(b: u8) -> bool
     ensures { λ r. ⌜ r ≡ nameByte b ⌝ }
 {
-    if b < 48 {
-        return false;
-    }
-    if b <= 57 {
+    if in_range(48, 57, b) {
         return true;
     }
-    if b < 65 {
-        return false;
-    }
-    if b <= 90 {
+    if in_range(65, 90, b) {
         return true;
     }
     if b == 95 {
         return true;
     }
-    if b < 97 {
-        return false;
-    }
-    b <= 122
+    in_range(97, 122, b)
 }
 
 fn name_ok(w: &[u8]) -> bool

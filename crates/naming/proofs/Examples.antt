@@ -7,7 +7,7 @@ use Rattle.fields.specs.Bytes.{markOf, run, same}
 use Rattle.fields.specs.Texts.{body, linesOf}
 use Rattle.fields.specs.Fields.{fieldsFrom, fieldsIn}
 use Rattle.fields.specs.Values.{cubeOf, digits, numberOf}
-use Rattle.names.specs.Names.{nameByte, allName, nameOk, holds, goodNames, countFrom, namesCount, sameFields, namesIn}
+use Rattle.names.specs.Names.{nameByte, allName, nameOk, holds, goodNames, namesCount, sameFields, namesIn}
 use Rattle.names.specs.Spans.{startAt, endAt, spanAt, fieldAt, nameSpan}
 use Rattle.lines.specs.Lines.{otherKey, keyOf, typedOf, rowLine, classOf, ofFields, lineOf}
 use Rattle.headers.specs.Headers.{lacks, lacksNone, readyOf, rowFits, openOf, fitsOf, headerAllowed, endAllowed, rowAllowed, named, allowedBy, allowedAt, nextAt}
@@ -114,35 +114,35 @@ looks =
     ∷ []
 
 looked : Looked looks
-unfolding markOf run same body linesOf fieldsFrom fieldsIn cubeOf digits numberOf otherKey keyOf typedOf rowLine classOf ofFields lineOf nameByte allName nameOk holds goodNames countFrom namesCount sameFields namesIn startAt endAt spanAt fieldAt nameSpan lacks lacksNone readyOf rowFits openOf fitsOf headerAllowed endAllowed rowAllowed named allowedBy allowedAt nextAt finishOf judgeLines judgeOf homeFrom homeOf namingOf sourceOf spotOf
+unfolding markOf run same body linesOf fieldsFrom fieldsIn cubeOf digits numberOf otherKey keyOf typedOf rowLine classOf ofFields lineOf nameByte allName nameOk holds goodNames namesCount sameFields namesIn startAt endAt spanAt fieldAt nameSpan lacks lacksNone readyOf rowFits openOf fitsOf headerAllowed endAllowed rowAllowed named allowedBy allowedAt nextAt finishOf judgeLines judgeOf homeFrom homeOf namingOf sourceOf spotOf
 looked = (refl, (refl, (refl, (refl, (refl, (refl, (refl, (refl, (refl, tt)))))))))
 
 -- `lamp`
 lamp-looked : nameOf named2 bad 1 ≡ 108 ∷ 97 ∷ 109 ∷ 112 ∷ []
-unfolding markOf run same body linesOf fieldsFrom fieldsIn cubeOf digits numberOf otherKey keyOf typedOf rowLine classOf ofFields lineOf nameByte allName nameOk holds goodNames countFrom namesCount sameFields namesIn startAt endAt spanAt fieldAt nameSpan lacks lacksNone readyOf rowFits openOf fitsOf headerAllowed endAllowed rowAllowed named allowedBy allowedAt nextAt finishOf judgeLines judgeOf homeFrom homeOf namingOf sourceOf spotOf nameOf
+unfolding markOf run same body linesOf fieldsFrom fieldsIn cubeOf digits numberOf otherKey keyOf typedOf rowLine classOf ofFields lineOf nameByte allName nameOk holds goodNames namesCount sameFields namesIn startAt endAt spanAt fieldAt nameSpan lacks lacksNone readyOf rowFits openOf fitsOf headerAllowed endAllowed rowAllowed named allowedBy allowedAt nextAt finishOf judgeLines judgeOf homeFrom homeOf namingOf sourceOf spotOf nameOf
 lamp-looked = refl
 
 -- `C`
 c-looked : nameOf plain named3 2 ≡ 67 ∷ []
-unfolding markOf run same body linesOf fieldsFrom fieldsIn cubeOf digits numberOf otherKey keyOf typedOf rowLine classOf ofFields lineOf nameByte allName nameOk holds goodNames countFrom namesCount sameFields namesIn startAt endAt spanAt fieldAt nameSpan lacks lacksNone readyOf rowFits openOf fitsOf headerAllowed endAllowed rowAllowed named allowedBy allowedAt nextAt finishOf judgeLines judgeOf homeFrom homeOf namingOf sourceOf spotOf nameOf
+unfolding markOf run same body linesOf fieldsFrom fieldsIn cubeOf digits numberOf otherKey keyOf typedOf rowLine classOf ofFields lineOf nameByte allName nameOk holds goodNames namesCount sameFields namesIn startAt endAt spanAt fieldAt nameSpan lacks lacksNone readyOf rowFits openOf fitsOf headerAllowed endAllowed rowAllowed named allowedBy allowedAt nextAt finishOf judgeLines judgeOf homeFrom homeOf namingOf sourceOf spotOf nameOf
 c-looked = refl
 
 -- ---- the names of a sheet
 
 -- all columns of the panel's, the first of the maker's, and none where one column has no name
 sheet-of-own : namesFor named2 bad 2 ≡ (75 ∷ 49 ∷ []) ∷ (108 ∷ 97 ∷ 109 ∷ 112 ∷ []) ∷ []
-unfolding markOf run same body linesOf fieldsFrom fieldsIn cubeOf digits numberOf otherKey keyOf typedOf rowLine classOf ofFields lineOf nameByte allName nameOk holds goodNames countFrom namesCount sameFields namesIn startAt endAt spanAt fieldAt nameSpan lacks lacksNone readyOf rowFits openOf fitsOf headerAllowed endAllowed rowAllowed named allowedBy allowedAt nextAt finishOf judgeLines judgeOf homeFrom homeOf namingOf sourceOf spotOf nameOf columnNames allNamed namesFor
+unfolding markOf run same body linesOf fieldsFrom fieldsIn cubeOf digits numberOf otherKey keyOf typedOf rowLine classOf ofFields lineOf nameByte allName nameOk holds goodNames namesCount sameFields namesIn startAt endAt spanAt fieldAt nameSpan lacks lacksNone readyOf rowFits openOf fitsOf headerAllowed endAllowed rowAllowed named allowedBy allowedAt nextAt finishOf judgeLines judgeOf homeFrom homeOf namingOf sourceOf spotOf nameOf columnNames allNamed namesFor
 sheet-of-own = refl
 
 sheet-of-makers : namesFor plain named3 2 ≡ (65 ∷ []) ∷ (66 ∷ []) ∷ []
-unfolding markOf run same body linesOf fieldsFrom fieldsIn cubeOf digits numberOf otherKey keyOf typedOf rowLine classOf ofFields lineOf nameByte allName nameOk holds goodNames countFrom namesCount sameFields namesIn startAt endAt spanAt fieldAt nameSpan lacks lacksNone readyOf rowFits openOf fitsOf headerAllowed endAllowed rowAllowed named allowedBy allowedAt nextAt finishOf judgeLines judgeOf homeFrom homeOf namingOf sourceOf spotOf nameOf columnNames allNamed namesFor
+unfolding markOf run same body linesOf fieldsFrom fieldsIn cubeOf digits numberOf otherKey keyOf typedOf rowLine classOf ofFields lineOf nameByte allName nameOk holds goodNames namesCount sameFields namesIn startAt endAt spanAt fieldAt nameSpan lacks lacksNone readyOf rowFits openOf fitsOf headerAllowed endAllowed rowAllowed named allowedBy allowedAt nextAt finishOf judgeLines judgeOf homeFrom homeOf namingOf sourceOf spotOf nameOf columnNames allNamed namesFor
 sheet-of-makers = refl
 
 sheet-of-none : namesFor named2 named3 3 ≡ []
-unfolding markOf run same body linesOf fieldsFrom fieldsIn cubeOf digits numberOf otherKey keyOf typedOf rowLine classOf ofFields lineOf nameByte allName nameOk holds goodNames countFrom namesCount sameFields namesIn startAt endAt spanAt fieldAt nameSpan lacks lacksNone readyOf rowFits openOf fitsOf headerAllowed endAllowed rowAllowed named allowedBy allowedAt nextAt finishOf judgeLines judgeOf homeFrom homeOf namingOf sourceOf spotOf nameOf columnNames allNamed namesFor
+unfolding markOf run same body linesOf fieldsFrom fieldsIn cubeOf digits numberOf otherKey keyOf typedOf rowLine classOf ofFields lineOf nameByte allName nameOk holds goodNames namesCount sameFields namesIn startAt endAt spanAt fieldAt nameSpan lacks lacksNone readyOf rowFits openOf fitsOf headerAllowed endAllowed rowAllowed named allowedBy allowedAt nextAt finishOf judgeLines judgeOf homeFrom homeOf namingOf sourceOf spotOf nameOf columnNames allNamed namesFor
 sheet-of-none = refl
 
 -- the line that `name_line` hands back, without its LF
 line-of-makers : nameLine plain named3 2 ≡ 46 ∷ 105 ∷ 108 ∷ 98 ∷ 32 ∷ 65 ∷ 32 ∷ 66 ∷ 32 ∷ 67 ∷ []
-unfolding markOf run same body linesOf fieldsFrom fieldsIn cubeOf digits numberOf otherKey keyOf typedOf rowLine classOf ofFields lineOf nameByte allName nameOk holds goodNames countFrom namesCount sameFields namesIn startAt endAt spanAt fieldAt nameSpan lacks lacksNone readyOf rowFits openOf fitsOf headerAllowed endAllowed rowAllowed named allowedBy allowedAt nextAt finishOf judgeLines judgeOf homeFrom homeOf namingOf sourceOf spotOf nameLine
+unfolding markOf run same body linesOf fieldsFrom fieldsIn cubeOf digits numberOf otherKey keyOf typedOf rowLine classOf ofFields lineOf nameByte allName nameOk holds goodNames namesCount sameFields namesIn startAt endAt spanAt fieldAt nameSpan lacks lacksNone readyOf rowFits openOf fitsOf headerAllowed endAllowed rowAllowed named allowedBy allowedAt nextAt finishOf judgeLines judgeOf homeFrom homeOf namingOf sourceOf spotOf nameLine
 line-of-makers = refl

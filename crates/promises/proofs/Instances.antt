@@ -17,7 +17,7 @@ use Rattle.fields.specs.Bytes.{markOf, run, same}
 use Rattle.fields.specs.Texts.{linesOf, body}
 use Rattle.fields.specs.Values.{cubeOf, digits, numberOf}
 use Rattle.fields.specs.Fields.{fieldsFrom, fieldsIn}
-use Rattle.names.specs.Names.{nameByte, allName, nameOk, holds, goodNames, countFrom, namesCount, sameFields, namesIn}
+use Rattle.names.specs.Names.{nameByte, allName, nameOk, holds, goodNames, namesCount, sameFields, namesIn}
 use Rattle.names.specs.Spans.{startAt, endAt, spanAt, fieldAt, nameSpan}
 use Rattle.naming.specs.Naming.{homeFrom, homeOf, namingOf, sourceOf, spotOf, nameOf}
 use Rattle.lines.specs.Lines.{otherKey, keyOf, typedOf, rowLine, classOf, ofFields, lineOf}
@@ -26,7 +26,6 @@ use Rattle.headers.specs.Accepted.{Accepted}
 use Rattle.headers.specs.Places.{Place}
 use Rattle.headers.specs.Headers.{lacks, lacksNone, readyOf, rowFits, openOf, fitsOf, headerAllowed, endAllowed, rowAllowed, named, allowedBy, allowedAt, nextAt}
 use Rattle.headers.specs.Verdicts.{finishOf, judgeLines, judgeOf}
-use Rattle.headers.specs.declared.Verdict.the-variants.{Good, Bad}
 use Rattle.headers.proofs.Accepting.{good-iff-text}
 use Rattle.headers.proofs.PlaceLaws.{one-size, bad-iff-place}
 use Rattle.recording.specs.Rows.{matchesOf, wordsBelow, linesWords, textWords}
@@ -75,7 +74,7 @@ record Texts : Type 0 where
   empty-bad : Place recording [] 1
 
 texts : Texts
-unfolding on relays allOn allOff transitionWord markOf run same linesOf body cubeOf digits numberOf fieldsFrom fieldsIn otherKey keyOf typedOf rowLine classOf ofFields lineOf nameByte allName nameOk holds goodNames countFrom namesCount sameFields namesIn lacks lacksNone readyOf rowFits openOf fitsOf headerAllowed endAllowed rowAllowed named allowedBy allowedAt nextAt finishOf judgeLines judgeOf matchesOf wordsBelow linesWords textWords
+unfolding on relays allOn allOff transitionWord markOf run same linesOf body cubeOf digits numberOf fieldsFrom fieldsIn otherKey keyOf typedOf rowLine classOf ofFields lineOf nameByte allName nameOk holds goodNames namesCount sameFields namesIn lacks lacksNone readyOf rowFits openOf fitsOf headerAllowed endAllowed rowAllowed named allowedBy allowedAt nextAt finishOf judgeLines judgeOf matchesOf wordsBelow linesWords textWords
 texts = record {
   two-rows-words = refl;
   one-dash-words = refl;
@@ -136,7 +135,7 @@ same-rows = record {
 
 -- and the same name
 name-same : (v : ℕ) → v < 1 → nameOf two-rows [] v ≡ nameOf one-dash [] v
-unfolding markOf run same linesOf body cubeOf digits numberOf fieldsFrom fieldsIn otherKey keyOf typedOf rowLine classOf ofFields lineOf nameByte allName nameOk holds goodNames countFrom namesCount sameFields namesIn startAt endAt spanAt fieldAt nameSpan lacks lacksNone readyOf rowFits openOf fitsOf headerAllowed endAllowed rowAllowed named allowedBy allowedAt nextAt finishOf judgeLines judgeOf homeFrom homeOf namingOf sourceOf spotOf nameOf
+unfolding markOf run same linesOf body cubeOf digits numberOf fieldsFrom fieldsIn otherKey keyOf typedOf rowLine classOf ofFields lineOf nameByte allName nameOk holds goodNames namesCount sameFields namesIn startAt endAt spanAt fieldAt nameSpan lacks lacksNone readyOf rowFits openOf fitsOf headerAllowed endAllowed rowAllowed named allowedBy allowedAt nextAt finishOf judgeLines judgeOf homeFrom homeOf namingOf sourceOf spotOf nameOf
 name-same zero l = refl
 name-same (suc v) l = absurd (omega arith)
 

@@ -2,14 +2,14 @@
 use Rattle.fields.proofs.TextLaws.{rest-is}
 use borrow.Author.Tests.{not-true, not-false}
 use native.Mathlib.Omega.{arith}
-use mathlib.Core.Path.{_≡_, sym, _∙_, refl}
+use mathlib.Core.Path.{_≡_, sym, _∙_}
 use Prim.Native.Nat.{_≤_, _-_}
 use lib.ListN.{length, drop}
 use denote.Ref.{now}
 use Rattle.fields.specs.Fields.{fieldsIn}
-use Rattle.names.specs.Names.{countFrom, namesCount}
+use Rattle.names.specs.Names.{namesCount}
 use Rattle.fields.proofs.FieldLaws.{span-on, span-in, ne-lt}
-use Rattle.names.proofs.NameLaws.{count-none, count-bad, count-twice, count-on}
+use Rattle.names.proofs.NameLaws.{countFrom, count-start, count-none, count-bad, count-twice, count-on}
 use borrow.Author.Needs.{needs}
 use Rattle.names.proofs.names_count.Statement.{statement}
 use Rattle.names.proofs.names_count.Tie as tie
@@ -21,8 +21,7 @@ abbrev μ-loop : tie.MeasureT-loop
 μ-loop s n₀ i₀ n i = length s - i
 
 loop-holds : tie.Need-loop-holds Inv-loop μ-loop
-unfolding namesCount
-loop-holds c = (omega arith, omega arith, refl)
+loop-holds c = (omega arith, omega arith, count-start _)
 
 returns : tie.Need-returns Inv-loop μ-loop
 returns c =
