@@ -1,6 +1,5 @@
 -- An accepted text is for a panel of 1 to 10 relays, and every row of it has that many columns and fits the layout.
 use Prim.Native.Nat.{ℕ, _+_, _≤_}
-use mathlib.Core.Path.{_≡_, refl}
 use mathlib.Core.Logic.{inl, inr}
 use mathlib.Core.List.{List, [], _∷_, _++_}
 use native.Mathlib.Omega.{arith}

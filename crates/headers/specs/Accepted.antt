@@ -83,7 +83,8 @@ All P [] = Unit {0}
 All P (l ∷ ls) = P (lineOf l) (namesIn l) × All P ls
 
 -- the lines of a text of n columns: headers, then rows, then one end mark, then blank lines and comments; each header stands at most
--- once, both sizes exactly once, the type line too where the layout requires it, and both name lines or neither
+-- once, both sizes exactly once, the type line too where the layout requires it, and both name lines or neither; `names` are what the name
+-- lines have, and mean nothing where there are none
 pub record Text (lay : Layout) (n : ℕ) (ls : List (List ℕ)) : Type 0 where
   pub top : List (List ℕ)
   pub middle : List (List ℕ)

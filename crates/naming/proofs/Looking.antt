@@ -2,26 +2,19 @@
 use Prim.Native.Nat.{ℕ, _+_, _-_, _≤_, _<_}
 use mathlib.Core.Path.{_≡_, refl, sym, _∙_}
 use mathlib.Core.List.{List, []}
-use mathlib.Core.Logic.{_↔_}
 use mathlib.Core.Bool.{Bool, true, false, cond}
 use native.Mathlib.Omega.{arith}
 use lib.ListN.{length, getD, take, drop, length-take}
 use lib.Seq.{take-take, drop-drop}
 use borrow.Author.Tests.{lt-ltb}
-use denote.Ref.{RefT, now, ptr}
+use denote.Ref.{RefT}
 use Rattle.fields.specs.declared.Span.{Span}
 use Rattle.names.specs.Names.{goodNames, namesIn, Name}
 use Rattle.names.specs.Spans.{between, bytesOf, nameSpan}
 use Rattle.names.proofs.NameLaws.{drop-take-is}
 use Rattle.names.proofs.SpanLaws.{name-in, name-bytes}
 use Rattle.names.proofs.Meaning.{name-of-good, differ-of-good}
-use Rattle.headers.specs.Layouts.{recording}
-use Rattle.headers.specs.Verdicts.{judgeOf}
-use Rattle.headers.specs.declared.Verdict.{Verdict}
-use Rattle.headers.specs.declared.Verdict.the-variants.{Good, Bad}
-use Rattle.naming.specs.Naming.{homeOf, namingFor, namingOf, sourceFor, sourceOf, noName, spotIn, spotFor, spotOf, bytesAt, nameOf, PartOf}
-use Rattle.naming.specs.declared.Home.{Home}
-use Rattle.naming.specs.declared.Home.the-variants.{Stands, Nowhere}
+use Rattle.naming.specs.Naming.{namingOf, sourceFor, sourceOf, noName, spotIn, spotFor, spotOf, bytesAt, nameOf, PartOf}
 use Rattle.naming.specs.declared.Naming.{Naming}
 use Rattle.naming.specs.declared.Naming.the-variants.{Refused, Nameless, Named}
 use Rattle.naming.specs.declared.Source.the-variants.{Panel, Maker}
@@ -36,16 +29,6 @@ pub lookup-unique : {panel maker : RefT (List ℕ)} {s : Spot} {r q : List ℕ} 
 lookup-unique h k = (h .the-bytes ∙ sym (k .the-bytes), h .the-block ∙ sym (k .the-block), h .the-place ∙ sym (k .the-place))
 
 -- ---- which text is asked
-
--- reading refuses a text: its verdict is bad
-pub refused-iff-bad : (t : List ℕ) → (namingOf t ≡ Refused) ↔ ((k : ℕ) × (judgeOf recording t ≡ Bad k))
-unfolding namingOf
-refused-iff-bad t = (λ h. go (judgeOf recording t) refl (homeOf t) h, λ b. rw (b .1))
-  where
-    go : (v : Verdict) → judgeOf recording t ≡ v → (m : Home) → namingFor v m ≡ Refused → (k : ℕ) × (judgeOf recording t ≡ Bad k)
-    go (Bad k) p m h = (k, p)
-    go (Good n) p Nowhere h = absurd (let z : _≡_ {A = ℕ} 0 1 = cc in omega arith)
-    go (Good n) p (Stands a e) h = absurd (let z : _≡_ {A = ℕ} 0 1 = cc in omega arith)
 
 spot-for : (w v u : Naming) (panel maker other : List ℕ) (column : ℕ) → (w ≡ Nameless → ⊥) → spotFor (sourceFor w v) panel maker column ≡ spotFor (sourceFor w u) panel other column
 spot-for Refused v u panel maker other column h = refl
@@ -129,10 +112,6 @@ unfolding nameOf
 none-empty panel maker v h = rw h
 
 module _ (panel maker line : List ℕ) (n : ℕ) (x : NamedBy panel maker line n) where
-  -- the name of a column is its field of the name line
-  pub name-is-field : (v : ℕ) → v < n → nameOf panel maker v ≡ getD (namesIn line) v []
-  name-is-field v h = x .below v h
-
   -- it is a name: 1 to 16 letters, digits or underscores
   pub name-is-name : (v : ℕ) → v < n → Name (nameOf panel maker v)
   name-is-name v h = rw (x .below v h) (name-of-good (namesIn line) v (x .good) (rw (x .many) h))
@@ -140,7 +119,3 @@ module _ (panel maker line : List ℕ) (n : ℕ) (x : NamedBy panel maker line n
   -- no other column has it
   pub names-differ : (v w : ℕ) → v < n → w < n → (v ≡ w → ⊥) → nameOf panel maker v ≡ nameOf panel maker w → ⊥
   names-differ v w h k d e = differ-of-good (namesIn line) v w (x .good) (rw (x .many) h) (rw (x .many) k) d (sym (x .below v h) ∙ e ∙ x .below w k)
-
-  -- a column that is not below n has none
-  pub name-beyond : (v : ℕ) → n ≤ v → nameOf panel maker v ≡ []
-  name-beyond v h = none-empty panel maker v (x .beyond v h)

@@ -1,14 +1,14 @@
 -- The lookup in the words of 02, over accepted texts: the panel's own names, else the maker's; none beyond n, of two texts without names, and where a text consulted is bad.
-use Prim.Native.Nat.{ℕ, _≤_, _<_}
+use Prim.Native.Nat.{ℕ, _≤_}
 use mathlib.Core.Path.{_≡_, refl, sym, _∙_, ap}
 use mathlib.Core.List.{List, [], _∷_, _++_, List·Memᴰ as Mem, List·Memᴰ·head as here, List·Memᴰ·tail as there}
 use mathlib.Core.Logic.{inl, inr}
 use mathlib.Core.Bool.{true, false}
 use native.Mathlib.Omega.{arith}
-use lib.ListN.{length, getD}
+use lib.ListN.{getD}
 use lib.Seq.{take-all}
 use Rattle.fields.specs.Texts.{linesOf}
-use Rattle.names.specs.Names.{namesIn, Name}
+use Rattle.names.specs.Names.{namesIn}
 use Rattle.names.specs.Spans.{between}
 use Rattle.lines.specs.Lines.{lineOf}
 use Rattle.lines.specs.declared.Part.the-variants.{Ins}
@@ -25,7 +25,7 @@ use Rattle.headers.specs.declared.Verdict.the-variants.{Good, Bad}
 use Rattle.headers.proofs.Accepting.{good-iff-text}
 use Rattle.naming.specs.Columns.{namesFor}
 use Rattle.naming.specs.Answers.{Answers, WithNames, WithoutNames, BadText}
-use Rattle.naming.specs.Naming.{homeOf, namingOf, noName, spotOf, nameOf}
+use Rattle.naming.specs.Naming.{homeOf, namingOf, noName, spotOf}
 use Rattle.naming.specs.declared.Home.{Home}
 use Rattle.naming.specs.declared.Home.the-variants.{Stands, Nowhere}
 use Rattle.naming.specs.declared.Naming.the-variants.{Refused, Nameless, Named}

@@ -16,7 +16,7 @@ use Rattle.lines.specs.declared.Part.the-variants.{Ins, Outs}
 use Rattle.lines.specs.declared.Line.{Line}
 use Rattle.lines.specs.declared.Line.the-variants.{Empty, Sized, Named, Typed, Rows, Row, End, Fault}
 use Rattle.lines.proofs.BoundLaws.{names-ok}
-use Rattle.headers.specs.Layouts.{samePart, recording}
+use Rattle.headers.specs.Layouts.{recording}
 use Rattle.headers.specs.Verdicts.{judgeOf}
 use Rattle.headers.specs.Accepted.{isHeader, one, times, rowsIn, HeaderLine, RowLine, EmptyLine, All, Text, Accepted}
 use Rattle.headers.specs.declared.Layout.{Layout}

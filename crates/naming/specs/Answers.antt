@@ -17,10 +17,11 @@ pub record Answers (panel maker : List ℕ) (n : ℕ) (ns : List (List ℕ)) : T
   pub differ : (v w : ℕ) → v < n → w < n → (v ≡ w → ⊥) → nameOf panel maker v ≡ nameOf panel maker w → ⊥
   pub beyond : (v : ℕ) → n ≤ v → spotOf panel maker v ≡ noName
 
--- an accepted text with name lines, and one without
+-- an accepted text has name lines
 abbrev pub WithNames : (n : ℕ) (t : List ℕ) → Accepted recording n t → Type 0
 WithNames n t x = times (Names Ins) (x .top) ≡ 1
 
+-- an accepted text has none
 abbrev pub WithoutNames : (n : ℕ) (t : List ℕ) → Accepted recording n t → Type 0
 WithoutNames n t x = times (Names Ins) (x .top) ≡ 0
 

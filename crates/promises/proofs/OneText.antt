@@ -1,7 +1,7 @@
 -- One set of transitions under one set of names has one printed sheet, byte for byte, and back.
 use mathlib.Core.Path.{_≡_, refl, sym, ap, _∙_, subst}
-use mathlib.Core.List.{List, [], _∷_, _++_, List·Memᴰ as Mem}
-use Prim.Native.Nat.{ℕ, zero, suc, _≤_, _<_}
+use mathlib.Core.List.{List, [], List·Memᴰ as Mem}
+use Prim.Native.Nat.{ℕ, zero, suc, _≤_}
 use mathlib.Core.Bool.{cond}
 use native.Mathlib.Omega.{arith}
 use lib.ListN.{length, take}

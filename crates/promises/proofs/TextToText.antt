@@ -25,7 +25,7 @@ use Rattle.recording.proofs.WordLaws.{read-size, read-valid}
 use Rattle.learning.specs.Learn.{Run, going, refused, learnRun, runAnswer, runBook, runSheet, runIf}
 use Rattle.writing.specs.SheetText.{sheetText}
 use Rattle.writing.specs.Writing.{written}
-use Rattle.program.specs.Program.{refusalLine, ifRoom, tooLong, readingCode, readingPlace, learnedRun, ownNames, writtenRun, runText, runPrinted, printed, Runs}
+use Rattle.program.specs.Program.{refusalLine, ifRoom, tooLong, readingCode, readingPlace, learnedRun, ownNames, runText, runPrinted, printed, Runs}
 use Rattle.program.proofs.LearnLaws.{Writable, learn-writable}
 use Rattle.program.proofs.Promises.{never-12}
 use Rattle.program.proofs.AnswerLaws.{run-answers}

@@ -13,7 +13,7 @@ use borrow.Author.Tests.{le-leb, lt-leb, leb-true, leb-false}
 use Rattle.fields.specs.Decimals.{decimal}
 use Rattle.writing.specs.TableText.{columnByte, columns, rowText, rowsText, headerText, nameLines, typeText, countText, tableText}
 use Rattle.writing.specs.SheetText.{sheetTable, sheetWord, sheetText}
-use Rattle.writing.specs.Writing.{Put, countLength, namesLength, textLength}
+use Rattle.writing.specs.Writing.{Put, countLength, textLength}
 use Rattle.writing.specs.declared.Table.{Table}
 use Rattle.writing.proofs.PutLaws.{put-none, put-length, put-then, line-length, put-line}
 use Rattle.writing.proofs.NameLines.{lines-length}

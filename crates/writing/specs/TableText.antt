@@ -53,10 +53,11 @@ headerText key v = key ++ (decimal v ++ 10 ∷ [])
 unfoldable pub nameText : List ℕ → List (List ℕ) → List ℕ
 nameText key names = key ++ (spaced names ++ 10 ∷ [])
 
--- the keywords of the two name lines
+-- `.ilb`
 abbrev pub ilb : List ℕ
 ilb = 46 ∷ 105 ∷ 108 ∷ 98 ∷ []
 
+-- `.ob`
 abbrev pub ob : List ℕ
 ob = 46 ∷ 111 ∷ 98 ∷ []
 
