@@ -73,7 +73,7 @@ static void small_rooms(void) {
 static const char text[] = ".i 3\n.o 3\n.type fr\n111 110\n110 100\n100 000\n000 001\n001 001\n011 101\n101 010\n"
                            "010 101\n.e\n";
 /* The panel's own text has no names. The maker's has; its rows do not matter here, so it has none. */
-static const char maker[] = ".i 3\n.o 3\n.ilb PUMP VALVE FLOAT\n.ob PUMP VALVE FLOAT\n.e\n";
+static const char maker[] = ".i 3\n.o 3\n.ilb PUMP VALVE FLOAT\n.ob PUMP VALVE FLOAT\n.type fr\n.e\n";
 #define TEXT(t) (const uint8_t *)t, sizeof t - 1
 
 static size_t looked_up(size_t column, ntekuzino_name *name) {

@@ -22,8 +22,8 @@
 #include <stdint.h>
 
 /* Major: a call answers otherwise, or takes other arguments. Minor: calls came. Patch: nothing that a caller can see. */
-#define NTEKUZINO_VERSION "2.0.0"
-#define NTEKUZINO_VERSION_MAJOR 2
+#define NTEKUZINO_VERSION "3.0.0"
+#define NTEKUZINO_VERSION_MAJOR 3
 #define NTEKUZINO_VERSION_MINOR 0
 #define NTEKUZINO_VERSION_PATCH 0
 
@@ -137,8 +137,8 @@ uint32_t ntekuzino_session_start(uint32_t n, uint32_t *sheet, size_t sheet_len, 
 uint32_t ntekuzino_session_take(ntekuzino_session *session, uint32_t *book, size_t book_len, uint32_t *sheet,
                                 size_t sheet_len, uint32_t i, uint32_t j, ntekuzino_answer *answer);
 
-/* Reads a recording (PLA text) into transition words. Codes 8, 11, with the line from 1 as the place of 11. Done: n, the
- * number of words, and 0 beyond. Refused: the list is all 0, n and count are 0. */
+/* Reads a recording (PLA text) into transition words. Codes 8, 11, with the line from 1 as the place of 11; where no line
+ * `.type fr` stands before it, the first row or the end mark is that line. Done: n, the number of words, and 0 beyond. Refused: the list is all 0, n and count are 0. */
 uint32_t ntekuzino_read(const uint8_t *text, size_t text_len, uint32_t *list, size_t list_len,
                         ntekuzino_reading *answer);
 

@@ -6,17 +6,17 @@
 (0, [0, 1048577, 1048578, 1052672, 2097153, 2097154])
 >>> ntekuzino.rule_of(1052672)
 Rule(head=1, on=(2,), off=())
->>> print(ntekuzino.sheet(".i 1\\n.o 1\\n0 0\\n.e\\n").text, end="")
+>>> print(ntekuzino.sheet(".i 1\\n.o 1\\n.type fr\\n0 0\\n.e\\n").text, end="")
 .i 1
 .o 1
 .type f
 .p 1
 1 1
 .e
->>> ntekuzino.lookup(".i 1\\n.o 1\\n.ilb PUMP\\n.ob PUMP\\n.e\\n", "", 0)
+>>> ntekuzino.lookup(".i 1\\n.o 1\\n.ilb PUMP\\n.ob PUMP\\n.type fr\\n.e\\n", "", 0)
 LookedUp(text=0, start=15, length=4, name=b'PUMP')
->>> ntekuzino.explain(".i 1\\n.o 1\\n0 0\\n")
-'refused 11 at 4\\nThe text ends after line 3, with no end mark. A recording ends with a line `.e` or `.end`.'
+>>> ntekuzino.explain(".i 1\\n.o 1\\n.type fr\\n0 0\\n")
+'refused 11 at 5\\nThe text ends after line 4, with no end mark. A recording ends with a line `.e` or `.end`.'
 """
 from .calls import (
     Answer,
@@ -54,7 +54,7 @@ from .desk import Desk, DeskError, version
 from .explaining import explain
 from .sheets import Outcome, sheet
 
-__version__ = "2.0.0"
+__version__ = "3.0.0"
 
 __all__ = [
     "Answer", "Applied", "Desk", "DeskError", "Fresh", "LookedUp", "Outcome", "Piece", "Ran", "Reading", "Rule", "Session", "SessionTaken", "Started",

@@ -23,14 +23,15 @@ from .pages import csv_table, html_page, text_table
 from .sheets import Outcome, sheet, sizes
 
 #: Raised when rows or explanations change their form, so that kept ones are made anew.
-FORM = "1"
+FORM = "2"
 OWN = ".archive"
 TABLES = ("table.txt", "table.csv", "index.html")
 
 
 @dataclass(frozen=True)
 class Entry:
-    """What the tables say of a recording. `answer` is a sheet, a refusal, or why the recording could not be read."""
+    """What the tables say of a recording. `answer` is a sheet, a refusal, or why the recording could not be read; `short` is the reason of a
+    refusal in a few words, for want of a type line alone."""
 
     name: str
     relays: int | None = None
@@ -41,9 +42,15 @@ class Entry:
     place: int | None = None
     line: str = ""
     why: str = ""
+    short: str = ""
     recording_sha256: str = ""
     answer_sha256: str = ""
     version: str = ""
+
+    @property
+    def told(self) -> str:
+        """The answer, and its reason if that is short."""
+        return f"{self.answer}: {self.short}" if self.short else self.answer
 
     @property
     def is_sheet(self) -> bool:
@@ -278,7 +285,7 @@ def _entry(name: str, text: bytes, outcome: Outcome, desk: Desk) -> Entry:
         relays, rules = sizes(outcome.printed)
         return Entry(name, relays, sum(1 for _ in texts.rows(text)), rules, "sheet, library's room" if outcome.in_library else "sheet", 0, 0)
     explanation = why_refused(text, outcome, desk)
-    entry = Entry(name, answer=told, code=outcome.code, place=outcome.place, line=explanation.line, why=explanation.why)
+    entry = Entry(name, answer=told, code=outcome.code, place=outcome.place, line=explanation.line, why=explanation.why, short=explanation.short)
     # A text that was not accepted has no sizes to tell.
     rows = [] if outcome.code in (11, 13) else list(texts.rows(text))
     return replace(entry, relays=len(rows[0].cells), rows=len(rows)) if rows else entry
@@ -307,7 +314,7 @@ class Progress:
         done = self.kept + self.answered_now
         left = self.total - done
         if not self.live:
-            self._write(f"{done} of {self.total}: {texts.shown_name(entry.name)}.pla: {entry.answer}{note}\n")
+            self._write(f"{done} of {self.total}: {texts.shown_name(entry.name)}.pla: {entry.told}{note}\n")
             return
         seconds = (self.clock() - self.began) / self.answered_now * left if self.answered_now else 0
         about = f", about {seconds:.0f} s" if self.answered_now and left else ""

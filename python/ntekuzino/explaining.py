@@ -12,8 +12,14 @@ from .texts import Line
 
 _SIZES = (b".i", b".o")
 _NAMES = (b".ilb", b".ob")
-_HEADERS = (*_SIZES, *_NAMES, b".type", b".p")
+_TYPE = b".type"
+_HEADERS = (*_SIZES, *_NAMES, _TYPE, b".p")
 _ENDS = (b".e", b".end")
+#: What is said of types that are none of a recording.
+_TYPES = {
+    b"f": " A text of `.type f` is a sheet, not a recording.",
+    b"fd": " In a text of `.type fd` a `0` of an output says nothing.",
+}
 _LETTERS = frozenset(b"ABCDEFGHIJKLMNOPQRSTUVWXYZabcdefghijklmnopqrstuvwxyz0123456789_")
 _ORDINALS = ("first", "second", "third", "fourth", "fifth", "sixth", "seventh", "eighth", "ninth", "tenth")
 
@@ -53,11 +59,22 @@ def _other(two: tuple[bytes, bytes], name: bytes) -> bytes:
     return two[1] if name == two[0] else two[0]
 
 
-def _lacking(so_far: _Before, where: str) -> str:
+def _untyped(line: Line, so_far: _Before) -> bool:
+    """A row or the end mark that has both sizes before it, and no type line."""
+    ends_headers = line.is_row or (line.fields != () and line.fields[0] in _ENDS)
+    return ends_headers and _TYPE not in so_far.line and all(name in so_far.line for name in _SIZES)
+
+
+def _lacking(line: Line, so_far: _Before, where: str) -> str:
     """What must stand before the first row or the end mark, and does not."""
     gone = [name for name in _SIZES if name not in so_far.line]
     if gone:
         return f"Before {where} there must be {' and '.join(_named(name) for name in gone)}."
+    if _untyped(line, so_far):
+        return (
+            f"No type line stands before line {line.number}, {where}. A recording has `.type fr` among its headers; without the line the published format "
+            "means `fd`, where a `0` of an output says nothing. Whoever knows that every `0` was seen adds the line: no program can know it."
+        )
     alone = [name for name in _NAMES if name in so_far.line]
     if len(alone) == 1:
         return f"{_named(alone[0])} in line {so_far.line[alone[0]]} has no {_named(_other(_NAMES, alone[0]))} beside it before {where}; a recording has both or neither."
@@ -141,10 +158,9 @@ def _header_fault(line: Line, so_far: _Before, rows: int) -> str:
         return _names_fault(line, so_far)
     if len(line.fields) != 2:
         return f"{_named(name)} has {_count(len(line.fields) - 1, 'value', 'values')}; it takes one."
-    if name == b".type":
+    if name == _TYPE:
         kind = line.fields[1]
-        sheet = " A text of `.type f` is a sheet, not a recording." if kind == b"f" else ""
-        return f"The type of a recording is `fr`, not {_named(kind)}.{sheet}" if kind != b"fr" else ""
+        return f"The type of a recording is `fr`, not {_named(kind)}.{_TYPES.get(kind, '')}" if kind != b"fr" else ""
     return _p_fault(line, rows) if name == b".p" else _size_fault(line, so_far)
 
 
@@ -159,7 +175,7 @@ def _cells_fault(cells: bytes, allowed: bytes, n: int, what: str) -> str:
 
 
 def _row_fault(line: Line, so_far: _Before) -> str:
-    lacking = _lacking(so_far, "the first row")
+    lacking = _lacking(line, so_far, "the first row")
     if lacking:
         return lacking
     n = int(so_far.says[b".i"][0])
@@ -193,13 +209,18 @@ def _marks_fault(line: Line, crs: int) -> str:
 
 def _end_fault(line: Line, so_far: _Before) -> str:
     alone = "" if len(line.fields) == 1 else f"{_named(line.fields[0])} stands alone on its line."
-    return _lacking(so_far, "the end mark") or alone
+    return _lacking(line, so_far, "the end mark") or alone
+
+
+def _at(lines: list[Line], place: int) -> tuple[Line, _Before, str]:
+    """A line, what stands before it, and what is wrong with its bytes."""
+    line = lines[place - 1]
+    return line, _before(lines[: place - 1]), _marks_fault(line, sum(each.raw.endswith(b"\r") for each in lines))
 
 
 def line_fault(lines: list[Line], place: int) -> str:
     """What is wrong with a line, those before it being good; nothing where nothing is found."""
-    line, so_far = lines[place - 1], _before(lines[: place - 1])
-    marks = _marks_fault(line, sum(each.raw.endswith(b"\r") for each in lines))
+    line, so_far, marks = _at(lines, place)
     if marks or not line.fields:
         return marks
     if so_far.end:
@@ -209,6 +230,15 @@ def line_fault(lines: list[Line], place: int) -> str:
     if line.fields[0] in _ENDS:
         return _end_fault(line, so_far)
     return _header_fault(line, so_far, sum(each.is_row for each in lines))
+
+
+def _no_type_line(text: bytes, place: int) -> str:
+    """In a few words, where the explanation of a text that reading refuses with 11 is that it has no type line; else nothing."""
+    lines = texts.lines(text)
+    if place > len(lines):
+        return ""
+    line, so_far, marks = _at(lines, place)
+    return f"no type line before line {place}" if not (marks or so_far.end) and _untyped(line, so_far) else ""
 
 
 def why_unread(text: bytes, place: int) -> tuple[str, str]:
@@ -264,11 +294,12 @@ def _why(text: bytes, outcome: Outcome, desk: Desk) -> tuple[str, str]:
 
 @dataclass(frozen=True)
 class Explanation:
-    """Why a recording is refused: the outcome, the faulty line as it stands or nothing, and sentences."""
+    """Why a recording is refused: the outcome, the faulty line as it stands or nothing, sentences, and for want of a type line the same in short."""
 
     outcome: Outcome
     line: str
     why: str
+    short: str = ""
 
     def __str__(self) -> str:
         first = self.outcome.printed.decode("ascii").rstrip("\n")
@@ -278,7 +309,8 @@ class Explanation:
 
 def why_refused(text: bytes, outcome: Outcome, desk: Desk) -> Explanation:
     """A refusal in words."""
-    return Explanation(outcome, *_why(text, outcome, desk))
+    short = _no_type_line(text, outcome.place) if outcome.code == 11 else ""
+    return Explanation(outcome, *_why(text, outcome, desk), short)
 
 
 def explain(text: Text, *, desk: Desk | None = None) -> str:

@@ -47,7 +47,7 @@ def text_table(result: Result) -> bytes:
     wide = max(4, *(len(_file(entry)) for entry in result.entries))
     lines = [f"{'file':{wide}}  relays   rows   rules  answer"]
     for e in result.entries:
-        lines.append(f"{_file(e):{wide}}  {_cell(e.relays):>6}  {_cell(e.rows):>5}  {_cell(e.rules):>6}  {e.answer}")
+        lines.append(f"{_file(e):{wide}}  {_cell(e.relays):>6}  {_cell(e.rows):>5}  {_cell(e.rules):>6}  {e.told}")
     lines += [f"passed over: {shown_name(name)}: {why}" for name, why in result.passed_over]
     lines.append(summary(result.entries))
     return "".join(line + "\n" for line in lines).encode("utf-8", "replace")
@@ -128,7 +128,9 @@ def _codes(result: Result) -> str:
     counts = Counter(e.code for e in result.entries if e.is_refused)
     if not counts:
         return ""
-    rows = "".join(f'<tr>{_number(code)}<td>{_text(CODES.get(code or 0, ""))}</td>{_number(count)}</tr>' for code, count in sorted(counts.items()))
+    untyped = sum(bool(e.short) for e in result.entries)
+    says = {**CODES, 11: f"{CODES[11]} ({untyped:,} for want of a type line)"} if untyped else CODES
+    rows = "".join(f'<tr>{_number(code)}<td>{_text(says.get(code or 0, ""))}</td>{_number(count)}</tr>' for code, count in sorted(counts.items()))
     return f'<table class="codes">{_head(["#code", "says", "#recordings"])}{rows}</table>'
 
 

@@ -16,7 +16,7 @@ from urllib.parse import unquote_to_bytes
 from .helping import PANEL, PANEL_SHEET, RECORDINGS, ROOT, InFolder, at_terminal, ran, recording, stored
 
 ARCHIVE = [ROOT / "ntekuzino", "archive"]
-REST, REST_SHEET = b".i 1\n.o 1\n0 0\n.e\n", b".i 1\n.o 1\n.type f\n.p 1\n1 1\n.e\n"
+REST, REST_SHEET = b".i 1\n.o 1\n.type fr\n0 0\n.e\n", b".i 1\n.o 1\n.type f\n.p 1\n1 1\n.e\n"
 BAD, BAD_ANSWER = recording("refused-7"), b"refused 7 at 1\n"
 ODD_NAMES = ["-v", "*", "a  b", "it's \"so\"", "two\nlines", os.fsdecode(b"\xff"), "$(touch x)", "é", "new..", "half-1", "table", ".archive", "a&<b>", "100%25", "n" * 251]
 
@@ -63,7 +63,9 @@ class Answers(Archived):
             r"panel\.pla +3 +8 +3  sheet",
             r"cell-cycle-shuffled\.pla +10 +1024 +22  sheet, library's room",
             r"refused-7\.pla +1 +2 +-  refused 7 at 1",
-            r"refused-11-nul\.pla +- +- +-  refused 11 at 4",
+            r"refused-11-nul\.pla +- +- +-  refused 11 at 5",
+            r"refused-11-no-type-line\.pla +- +- +-  refused 11 at 4: no type line before line 4",
+            r"refused-11-no-type-line-end-missing\.pla +- +- +-  refused 11 at 4",
             r"dairy-tank\.pla +5 +7 +40  sheet",
             r"refused-11-names-dot\.pla +- +- +-  refused 11 at 5",
         ):
@@ -100,6 +102,33 @@ class Answers(Archived):
         ):
             self.assertIn(f"passed over: {line}\n", printed)
             self.assertIn(line, (self.out / "index.html").read_text())
+
+    def test_no_type_line(self) -> None:
+        """It is told plainly, and the recording stays as it is: only a person adds the line."""
+        untyped = self.add("old", PANEL.replace(b".type fr\n", b"# fr\n"))
+        self.add("rowless", b".i 1\n.o 1\n.e\n")
+        self.add("new", PANEL)
+        self.add("other", b".i 1\n.o 2\n")
+        printed, said = self.run_(1)
+        for name, words in (("old", "refused 11 at 4: no type line before line 4"), ("rowless", "refused 11 at 3: no type line before line 3"), ("other", "refused 11 at 2")):
+            self.assertRegex(printed, rf"(?m)^{name}\.pla +- +- +-  {words}$")
+            self.assertIn(f"{name}.pla: {words}\n", said)
+        self.assertEqual(self.answer("old"), b"refused 11 at 4\n")
+        why = "No type line stands before line 4, the first row."
+        with open(self.out / "table.csv", encoding="utf-8", newline="") as table:
+            row = {row["file"]: row for row in csv.DictReader(table)}["old.pla"]
+        self.assertEqual((row["answer"], row["code"], row["place"], row["line"], row["why"][: len(why)]), ("refused 11 at 4", "11", "4", "111 110", why))
+        page = (self.out / "index.html").read_text("utf-8")
+        self.assertIn("the text breaks the layout (2 for want of a type line)", page)
+        self.assertIn(why, page)
+        self.assertIn("old.pla: refused 11 at 4: no type line before line 4 (kept)\n", self.run_(1)[1])
+        self.assertEqual(untyped.read_bytes(), PANEL.replace(b".type fr\n", b"# fr\n"))
+        self.add("old", PANEL)
+        self.add("rowless", REST)
+        (self.texts / "other.pla").unlink()
+        self.run_(0)
+        self.assertEqual(self.answer("old"), PANEL_SHEET)
+        self.assertNotIn("type line", (self.out / "index.html").read_text("utf-8"))
 
     def test_unreadable(self) -> None:
         self.add("a", PANEL)

@@ -18,7 +18,8 @@ K9 = [2048, 1053696, 2097153]
 PANEL_WORDS = [7171, 3073, 1024, 4, 4100, 6149, 5122, 2053]
 # Document 000's panel has no names; these are a maker's.
 NAMES = b".ilb PUMP VALVE HEAT\n.ob PUMP VALVE HEAT\n"
-MAKER = b".i 3\n.o 3\n" + NAMES + b".e\n"
+MAKER = b".i 3\n.o 3\n" + NAMES + b".type fr\n.e\n"
+UNTYPED = MAKER.replace(b".type fr\n", b"")
 
 
 class BenchExamples(unittest.TestCase):
@@ -82,6 +83,7 @@ class BenchExamples(unittest.TestCase):
         for panel, maker, text in [
             (helping.PANEL, MAKER, named), (MAKER, b"junk", named), (MAKER.decode(), "", named), (helping.recording("names-no-rows"), MAKER, helping.PANEL_SHEET),
             (helping.PANEL, b"junk", helping.PANEL_SHEET), (b"junk", MAKER, helping.PANEL_SHEET), (b"", MAKER, helping.PANEL_SHEET),
+            (UNTYPED, MAKER, helping.PANEL_SHEET), (helping.PANEL, UNTYPED, helping.PANEL_SHEET),
         ]:
             self.assertEqual(ntekuzino.write_sheet(3, K9, panel=panel, maker=maker, desk=self.desk).text, text, (panel, maker))
         refused = ntekuzino.write_sheet(3, K9, panel=MAKER, out=len(named) - 1, desk=self.desk)
@@ -95,6 +97,7 @@ class BenchExamples(unittest.TestCase):
             (MAKER, b"", 0, ntekuzino.LookedUp(0, 15, 4, b"PUMP")), (helping.PANEL, MAKER, 2, ntekuzino.LookedUp(1, 26, 4, b"HEAT")),
             (MAKER, b"junk", 1, ntekuzino.LookedUp(0, 20, 5, b"VALVE")), (helping.PANEL.decode(), MAKER.decode(), 1, ntekuzino.LookedUp(1, 20, 5, b"VALVE")),
             (MAKER, MAKER, 3, nothing), (MAKER, b"", 2**64 - 1, nothing), (helping.PANEL, helping.PANEL, 0, nothing), (b"", MAKER, 0, nothing), (helping.PANEL, b"junk", 0, nothing),
+            (UNTYPED, MAKER, 0, nothing), (helping.PANEL, UNTYPED, 0, nothing),
         ]:
             self.assertEqual(ntekuzino.lookup(panel, maker, column, desk=self.desk), found, (panel, maker, column))
 

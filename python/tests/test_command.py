@@ -10,6 +10,10 @@ from .helping import PANEL, PANEL_SHEET, RECORDINGS, ROOT, InFolder, at_terminal
 
 RULESHEET, NTEKUZINO = ROOT / "rulesheet", ROOT / "ntekuzino"
 NAMES = b".ilb PUMP VALVE HEAT\n.ob PUMP VALVE HEAT\n"
+WHY_TYPED = (
+    b"A recording has `.type fr` among its headers; without the line the published format means `fd`, where a `0` of an output says nothing. "
+    b"Whoever knows that every `0` was seen adds the line: no program can know it."
+)
 
 
 def with_names(text: bytes, names: bytes = NAMES) -> bytes:
@@ -114,7 +118,7 @@ class Ntekuzino(InFolder):
             self.assertEqual((done.returncode, done.stdout, done.stderr), (0, PANEL_SHEET, b""))
 
     def test_join_refused(self) -> None:
-        a, b = self.put("a", b".i 2\n.o 2\n10 01\n.e\n"), self.put("b", b".i 2\n.o 2\n1- 11\n.e\n")
+        a, b = self.put("a", b".i 2\n.o 2\n.type fr\n10 01\n.e\n"), self.put("b", b".i 2\n.o 2\n.type fr\n1- 11\n.e\n")
         done = ran(NTEKUZINO, "join", a, b)
         self.assertEqual((done.returncode, done.stdout), (1, b"refused 7 at 0\n"))
         self.assertIn(b"disagree on state 10: 01 follows in one, 11 in the other", done.stderr)
@@ -138,7 +142,7 @@ class Ntekuzino(InFolder):
             done = ran(NTEKUZINO, part, "--help")
             self.assertEqual(done.returncode, 0)
             self.assertIn(b"Example: ntekuzino " + part.encode(), done.stdout)
-        self.assertRegex(ran(NTEKUZINO, "--version").stdout, rb"^package 2\.\d+\.\d+, library ntekuzino 2\.\d+\.\d+ [0-9a-f]{64}\n$")
+        self.assertRegex(ran(NTEKUZINO, "--version").stdout, rb"^package 3\.\d+\.\d+, library ntekuzino 3\.\d+\.\d+ [0-9a-f]{64}\n$")
 
     def test_could_not(self) -> None:
         self.put("folder/file", b"")
@@ -185,7 +189,7 @@ class Names(InFolder):
         self.assertEqual(ran(RULESHEET, tank).stdout, helping.stored("dairy-tank"))
 
     def test_maker(self) -> None:
-        maker, panel = self.put("maker", with_names(b".i 3\n.o 3\n.e\n")), self.put("panel", PANEL)
+        maker, panel = self.put("maker", with_names(b".i 3\n.o 3\n.type fr\n.e\n")), self.put("panel", PANEL)
         for words in ([], ["--exact"]):
             self.assertEqual(self.sheet("--maker", maker, *words, panel), with_names(PANEL_SHEET))
         done = ran(NTEKUZINO, "sheet", "--maker", maker, input=PANEL)
@@ -201,8 +205,9 @@ class Names(InFolder):
         self.put("panel", PANEL)
         for text, why in [
             (b"", b"line 1 breaks the layout. The text is empty. A recording ends with a line `.e` or `.end`."),
-            (with_names(b".i 3\n.o 3\n.e\n", b".ilb A B C-1\n"), b"line 3 breaks the layout. The third name, `C-1`, has `-` in it; a name has letters, digits and underscores, and blanks part the names."),
+            (with_names(b".i 3\n.o 3\n.type fr\n.e\n", b".ilb A B C-1\n"), b"line 3 breaks the layout. The third name, `C-1`, has `-` in it; a name has letters, digits and underscores, and blanks part the names."),
             (with_names(PANEL, b".p 1\n"), b"line 3 breaks the layout. It says 1, but the text has 8 rows."),
+            (with_names(PANEL).replace(b".type fr\n", b""), b"line 5 breaks the layout. No type line stands before line 5, the first row. " + WHY_TYPED),
             (PANEL, b"it has no lines `.ilb` and `.ob`."),
             (helping.recording("names"), b"it names 2 of the recording's 3 relays."),
         ]:
@@ -249,8 +254,8 @@ class Names(InFolder):
         self.could_not(b"b and c call relay 1 differently: VALVE in one, FLOAT in the other", "join", "a", "b", "b", "c")
 
     def test_join_disagreement(self) -> None:
-        named = b".i 2\n.o 2\n.ilb PUMP VALVE\n.ob PUMP VALVE\n10 01\n.e\n"
-        done = ran(NTEKUZINO, "join", self.put("a", b".i 2\n.o 2\n10 11\n.e\n"), self.put("b", named))
+        named = b".i 2\n.o 2\n.ilb PUMP VALVE\n.ob PUMP VALVE\n.type fr\n10 01\n.e\n"
+        done = ran(NTEKUZINO, "join", self.put("a", b".i 2\n.o 2\n.type fr\n10 11\n.e\n"), self.put("b", named))
         self.assertEqual((done.returncode, done.stdout), (1, b"refused 7 at 0\n"))
         self.assertIn(b"disagree on state 10: 11 follows in one, 01 in the other; they differ on PUMP\n", done.stderr)
 

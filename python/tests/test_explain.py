@@ -30,7 +30,7 @@ FAULTS = [
     (b".i x\n", "refused 11 at 1", "`x` is no number"),
     (b".i\n", "refused 11 at 1", "`.i` has 0 values"),
     (b".i 3 4\n", "refused 11 at 1", "`.i` has 2 values"),
-    (b".type fd\n", "refused 11 at 1", "`fr`, not `fd`"),
+    (b".type fd\n", "refused 11 at 1", "The type of a recording is `fr`, not `fd`. In a text of `.type fd` a `0` of an output says nothing"),
     (b".type f\n", "refused 11 at 1", "a sheet, not a recording"),
     (HEAD + b".p 01\n", "refused 11 at 4", "no leading zeros"),
     (HEAD + b".p x\n", "refused 11 at 4", "`x` is no number"),
@@ -40,6 +40,11 @@ FAULTS = [
     (b".i 3\n111 110\n", "refused 11 at 2", "there must be `.o`"),
     (b"111 110\n", "refused 11 at 1", "there must be `.i` and `.o`"),
     (b".o 3\n.e\n", "refused 11 at 2", "Before the end mark there must be `.i`"),
+    (b".i 3\n.o 3\n.p 1\n111 110\n.e\n", "refused 11 at 4", "No type line stands before line 4, the first row. A recording has `.type fr` among its headers"),
+    (b".i 3\n.o 3\n# .type fr\n.e\n", "refused 11 at 4", "No type line stands before line 4, the end mark. A recording has"),
+    (b".i 3\n.o 3\n111 110\n.type fr\n.e\n", "refused 11 at 3", "Whoever knows that every `0` was seen adds the line"),
+    (b".i 3\n.o 3\n.ilb A B C\n111 110\n.e\n", "refused 11 at 4", "No type line stands before line 4, the first row."),
+    (b".i 3\n.o 3\n", "refused 11 at 3", "ends after line 2, with no end mark"),
     (HEAD + b".e 3\n", "refused 11 at 4", "`.e` stands alone"),
     (HEAD + b"11 110\n", "refused 11 at 4", "The row has 2 input columns; the panel has 3 relays"),
     (HEAD + b"111 1101\n", "refused 11 at 4", "4 output columns"),
@@ -79,7 +84,7 @@ FAULTS = [
     (HEAD + b".ilbA B C\n", "refused 11 at 4", "`.ilbA` is no header of a recording: they are `.i`, `.o`, `.ilb`, `.ob`"),
     (HEAD + b".ilb PUMP VALVE HEAT\r\n", "refused 11 at 4", "ends with CR"),
     (b"#" * 24577, "refused 13 at 0", "The text has 24,577 bytes; there is room for 24,576"),
-    (b".i 10\n.o 10\n" + b"---------- 0000000000\n" * 65 + b".e\n", "refused 8 at 0", "The rows stand for 66,560 states"),
+    (b".i 10\n.o 10\n.type fr\n" + b"---------- 0000000000\n" * 65 + b".e\n", "refused 8 at 0", "The rows stand for 66,560 states"),
 ]
 
 
@@ -131,7 +136,7 @@ class Explained(unittest.TestCase):
     def test_damaged_texts(self) -> None:
         """Whatever stands there: the code is the library's, and there is a sentence, for the library's line and for none before it."""
         chance = random.Random(12)
-        whole = [helping.PANEL, HEAD + b".p 1\n1-1 010 # c\n.e\n", NAMED + b"1-1 010\n.e\n", b".ob A B_1 # c\n.i 2\n.ilb\tA  B_1\n.o 2\n0- 01\n.end\n"]
+        whole = [helping.PANEL, HEAD + b".p 1\n1-1 010 # c\n.e\n", NAMED + b"1-1 010\n.e\n", b".ob A B_1 # c\n.i 2\n.ilb\tA  B_1\n.o 2\n.type fr\n0- 01\n.end\n"]
         refused = 0
         for _ in range(1500):
             text = damaged(chance.choice(whole), chance)
@@ -169,7 +174,7 @@ class Rooms(unittest.TestCase):
 
     def test_maker(self) -> None:
         """In either room: a recording's own names come first, then the maker's; without them the sheet is the same but for these lines."""
-        maker = b".i 3\n.o 3\n.ilb PUMP VALVE HEAT\n.ob PUMP VALVE HEAT\n.e\n"
+        maker = NAMED + b".e\n"
         lines = b".ilb PUMP VALVE HEAT\n.ob PUMP VALVE HEAT\n"
         with Desk() as desk:
             for exact, of_maker in ((False, maker), (True, maker), (False, maker.decode())):
@@ -187,7 +192,7 @@ class Rooms(unittest.TestCase):
             self.assertEqual((outcome.in_library, outcome.printed), (True, helping.stored("cell-cycle")))
             long = helping.PANEL + b"#" * 30000
             self.assertEqual(sheet(long, desk=desk).printed, helping.PANEL_SHEET)
-            many = b".i 3\n.o 3\n" + b"--- 000\n" * 200 + b".e\n"
+            many = HEAD + b"--- 000\n" * 200 + b".e\n"
             self.assertEqual(sheet(many, desk=desk).printed, b".i 3\n.o 3\n.type f\n.p 0\n.e\n")
             # Text of 65,536 rules fits: 11 random rows have more rules than the program has room for.
             chance = random.Random(7)
@@ -195,10 +200,10 @@ class Rooms(unittest.TestCase):
             rows = b"".join(b"%s %s\n" % tuple(f"{x:010b}".encode() for x in (state, chance.randrange(1024))) for state in states)
             ten = b" ".join(b"RELAY_%d_OF_TEN__" % k for k in range(10))
             names = b".ilb " + ten + b"\n.ob " + ten + b"\n"
-            large = sheet(b".i 10\n.o 10\n" + names + rows + b".e\n", desk=desk)
+            large = sheet(b".i 10\n.o 10\n.type fr\n" + names + rows + b".e\n", desk=desk)
             self.assertTrue(large.in_library and large.done)
             self.assertGreater(len(large.printed), 65536)
-            self.assertEqual(large.printed.split(names), [b".i 10\n.o 10\n", sheet(b".i 10\n.o 10\n" + rows + b".e\n", desk=desk).printed[12:]])
+            self.assertEqual(large.printed.split(names), [b".i 10\n.o 10\n", sheet(b".i 10\n.o 10\n.type fr\n" + rows + b".e\n", desk=desk).printed[12:]])
             beyond = sheet(b"#" * 3_000_000, desk=desk)
             self.assertEqual(beyond.printed, b"refused 13 at 0\n")
             self.assertIn("more than 2,097,152 bytes", why_refused(b"#" * 3_000_000, beyond, desk).why)

@@ -113,7 +113,7 @@ fn accepted(lines: &[Line]) -> Option<u32> {
     let good = n == m
         && named_well(headers, n)
         && headers.iter().all(|line| *line != Line::Fault)
-        && headers.iter().filter(|line| **line == Line::Type).count() <= 1
+        && headers.iter().filter(|line| **line == Line::Type).count() == 1
         && headers.iter().filter(|line| matches!(line, Line::Rows(_))).count() <= 1
         && rows.iter().all(|line| match line {
             Line::Blank => true,
@@ -153,9 +153,10 @@ fn only(lines: &[Line], value: impl Fn(&Line) -> Option<u32>) -> Option<u32> {
 /// The lines begin an accepted text.
 ///
 /// If any lines to follow make an accepted text, then so do no lines at all (the end mark stands
-/// already), or else the missing ones of `.i n` and `.o n` for the right n, the missing one of two
-/// name lines if one stands, which must repeat its names, and `.e`: rows and other headers to
-/// follow may be left out, and so may both name lines. So these completions are tried, for each n.
+/// already), or else the missing ones of `.i n` and `.o n` for the right n and of `.type fr`, the
+/// missing one of two name lines if one stands, which must repeat its names, and `.e`: rows and
+/// other headers to follow may be left out, and so may both name lines. So these completions are
+/// tried, for each n.
 fn begins_accepted(lines: &[Line]) -> bool {
     let mut text = lines.to_vec();
     if accepted(&text).is_some() {
@@ -168,19 +169,19 @@ fn begins_accepted(lines: &[Line]) -> bool {
     })
 }
 
+/// Every choice of the headers that may be missing, and then the end mark.
 fn completions<'a>(lines: &[Line<'a>]) -> Vec<Vec<Line<'a>>> {
     let mut completions = Vec::new();
-    let name_lines = lines.iter().find_map(other_name_line).map(Some);
-    for names in [None].into_iter().chain(name_lines) {
-        for n in 1..=MOST_RELAYS {
-            let (inputs, outputs) = (Line::Inputs(n), Line::Outputs(n));
-            let sizes =
-                [vec![], vec![inputs.clone()], vec![outputs.clone()], vec![inputs, outputs]];
-            for mut completion in sizes {
-                completion.extend(names.clone());
-                completion.push(Line::End);
-                completions.push(completion);
-            }
+    let name_line = lines.iter().find_map(other_name_line);
+    for n in 1..=MOST_RELAYS {
+        let mut headers = vec![Line::Inputs(n), Line::Outputs(n), Line::Type];
+        headers.extend(name_line.clone());
+        for choice in 0..1 << headers.len() {
+            let chosen = |place: &usize| choice >> place & 1 == 1;
+            let header = |place: usize| headers[place].clone();
+            let mut completion: Vec<Line> = (0..headers.len()).filter(chosen).map(header).collect();
+            completion.push(Line::End);
+            completions.push(completion);
         }
     }
     completions
@@ -355,11 +356,12 @@ mod tests {
 
     #[test]
     fn places_of_names() {
-        let text = b"# x\n.ob a Bc\n \t.ilb  a\tBc#c\n.i 2\n.o 2\n.e";
+        let text = b"# x\n.ob a Bc\n \t.ilb  a\tBc#c\n.i 2\n.o 2\n.type fr\n.e";
         assert_eq!(name_places(text), Ok(vec![21..22, 23..25]));
         assert_eq!((&text[21..22], &text[23..25]), (&b"a"[..], &b"Bc"[..]));
-        assert_eq!(name_places(b".i 2\n.o 2\n.e"), Ok(vec![]));
-        assert_eq!(name_places(b".ilb a\n.i 1\n.o 1\n.e"), Err(4));
+        assert_eq!(name_places(b".i 2\n.o 2\n.type fr\n.e"), Ok(vec![]));
+        assert_eq!(name_places(b".ilb a\n.i 1\n.o 1\n.type fr\n.e"), Err(5));
+        assert_eq!(name_places(b".ilb a\n.ob a\n.i 1\n.o 1\n.e"), Err(5));
     }
 
     /// What the headers so far have said.
@@ -396,7 +398,8 @@ mod tests {
 
         /// A row or the end mark may stand after them.
         fn whole(&self) -> bool {
-            self.sizes.iter().all(Option::is_some)
+            self.typed
+                && self.sizes.iter().all(Option::is_some)
                 && self.names[0].is_some() == self.names[1].is_some()
         }
     }
@@ -433,13 +436,14 @@ mod tests {
         headers.sizes[0].filter(|_| ended).map(|n| n as u32).ok_or(lines.len())
     }
 
-    /// The definition of a faulty line and the walk agree on all texts of at most so many lines.
-    fn agree_up_to(longest: u32, alphabet: &[Line]) {
+    /// The definition of a faulty line and the walk agree on all texts that begin with a head and
+    /// have at most so many lines after it.
+    fn agree_up_to(longest: u32, head: &[Line], alphabet: &[Line]) {
         let sizes = alphabet.len();
         for length in 0..=longest {
             for number in 0..sizes.pow(length) {
                 let line = |place| alphabet[number / sizes.pow(place) % sizes].clone();
-                let text: Vec<Line> = (0..length).map(line).collect();
+                let text: Vec<Line> = head.iter().cloned().chain((0..length).map(line)).collect();
                 let passed = lines_before_fault(&text);
                 let found = accepted(&text).filter(|_| passed == text.len()).ok_or(passed);
                 assert_eq!(found, walk(&text), "{text:?}");
@@ -463,7 +467,23 @@ mod tests {
             Line::End,
             Line::Fault,
         ];
-        agree_up_to(4, &lines);
+        agree_up_to(4, &[], &lines);
+        agree_up_to(4, &[Line::Type], &lines);
+    }
+
+    #[test]
+    fn the_definition_of_a_faulty_line_and_the_walk_agree_on_the_type_line() {
+        let lines = [
+            Line::Inputs(1),
+            Line::Outputs(1),
+            Line::Type,
+            Line::Rows(b"0"),
+            Line::Row(b"1", b"0"),
+            Line::End,
+        ];
+        agree_up_to(6, &[], &lines);
+        let named = [Line::InputNames(vec![b"a"]), Line::OutputNames(vec![b"a"])];
+        agree_up_to(5, &named, &lines);
     }
 
     #[test]
@@ -480,7 +500,8 @@ mod tests {
             Line::Row(b"1", b"0"),
             Line::End,
         ];
-        agree_up_to(5, &lines);
+        agree_up_to(4, &[], &lines);
+        agree_up_to(5, &[Line::Type], &lines);
         let letters: Vec<&[u8]> = b"abcdefghijk".chunks(1).collect();
         let at_the_edge = [
             Line::InputNames(vec![]),
@@ -491,6 +512,6 @@ mod tests {
             Line::Outputs(10),
             Line::End,
         ];
-        agree_up_to(5, &at_the_edge);
+        agree_up_to(5, &[Line::Type], &at_the_edge);
     }
 }

@@ -1,4 +1,5 @@
-//! The second program: document 01, with Ask 1 of document 02, by definition and brute force.
+//! The second program: document 01, with Asks 1 and 2 of document 02, by definition and brute
+//! force.
 //!
 //! * `panel`: states, transitions, bodies, rules and their words
 //! * `sheets`: which bodies are consistent, permitted, smallest; good books and sheets

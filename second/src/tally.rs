@@ -3,11 +3,12 @@
 use std::collections::BTreeMap;
 use std::io::{self, Read};
 
-use crate::calls::DONE;
+use crate::calls::{BAD_LAYOUT, DONE};
 use crate::desk::{
     next_request, next_word, shape_of, Next, Request, APPLY, FRESH, JOIN, LEARN, LOOKUP, READ, RUN,
     SESSION_START, SESSION_TAKE, SHAPES, TAKE, WRITE,
 };
+use crate::layout::recording;
 use crate::text::{found, NoName};
 
 /// How a call ended.
@@ -16,6 +17,10 @@ pub enum Outcome {
     Code(u64),
     /// Write and run: done, and the sheet has name lines; done without them is code 0.
     Named,
+    /// Read and run: code 11 for want of the type line alone, so that the first row is faulty, or
+    /// the end mark of a text without rows; any other 11 is code 11.
+    UntypedRow,
+    UntypedEnd,
     /// Run alone: the refusal line is longer than `out`, the length is 0.
     NoRoomForLine,
     /// Lookup alone: a part of the panel's text, of the maker's, or the empty part, and why.
@@ -49,8 +54,9 @@ fn codes_of(call: u64) -> &'static [u64] {
 /// The other outcomes that can occur in a call.
 fn others_of(call: u64) -> &'static [Outcome] {
     match call {
+        READ => &[Outcome::UntypedRow, Outcome::UntypedEnd],
         WRITE => &[Outcome::Named],
-        RUN => &[Outcome::Named, Outcome::NoRoomForLine],
+        RUN => &[Outcome::Named, Outcome::UntypedRow, Outcome::UntypedEnd, Outcome::NoRoomForLine],
         LOOKUP => &[
             Outcome::PanelName,
             Outcome::MakerName,
@@ -76,14 +82,28 @@ pub fn targets() -> Vec<(u64, Outcome)> {
 
 /// How the call ended, by its answer; none if the answer is one that no call gives.
 pub fn outcome_of(request: &Request, answer: &[u64]) -> Option<Outcome> {
-    match (request.shape.call, answer) {
+    let outcome = match (request.shape.call, answer) {
         (RUN, [length, ..]) => printed_outcome(&printed(request, answer, *length)?),
         (WRITE, [DONE, _, _, _, _, _, length, ..]) => {
             printed_outcome(&printed(request, answer, *length)?)
         }
         (LOOKUP, _) => looked_up(request, answer),
         _ => answer.first().map(|code| Outcome::Code(*code)),
+    };
+    match (request.shape.call, outcome) {
+        // The first slice of both is the text.
+        (READ | RUN, Some(Outcome::Code(BAD_LAYOUT))) => {
+            untyped(&request.lent_bytes(0)).or(outcome)
+        }
+        _ => outcome,
     }
+}
+
+/// The outcome of a text that breaks the layout for want of the type line alone: with the line put
+/// before it, it is read.
+fn untyped(text: &[u8]) -> Option<Outcome> {
+    let (_, words) = recording(&[b".type fr\n", text].concat()).ok()?;
+    Some(if words.is_empty() { Outcome::UntypedEnd } else { Outcome::UntypedRow })
 }
 
 /// So many bytes of the last slice of a request, as they are in its answer.
@@ -221,6 +241,8 @@ fn label(outcome: Outcome) -> String {
     match outcome {
         Outcome::Code(code) => format!("code {code}"),
         Outcome::Named => "code 0 with names".to_string(),
+        Outcome::UntypedRow => "code 11 at a row without type".to_string(),
+        Outcome::UntypedEnd => "code 11 at an end without type".to_string(),
         Outcome::NoRoomForLine => "no room for the line".to_string(),
         Outcome::PanelName => "panel's name".to_string(),
         Outcome::MakerName => "maker's name".to_string(),

@@ -1,8 +1,9 @@
 //! Requests and answers as bytes, the seeded cases, and the tally.
 
 use second::cases::{examples, malformed, requests, requests_but};
-use second::desk::{bytes_of, serve, Request, LOOKUP, MOST_WORDS, RUN};
-use second::tally::{printed_outcome, targets, Outcome, Tally};
+use second::desk::{bytes_of, serve, shape_of, Request, LOOKUP, MOST_WORDS, READ, RUN, WRITE};
+use second::tally::{outcome_of, printed_outcome, targets, Outcome, Tally};
+use second::text::{found, read};
 
 /// The answers to a stream, and whether it ended between two requests.
 fn served(stream: &[u8]) -> (Vec<u64>, bool) {
@@ -62,8 +63,8 @@ fn lent(text: &str) -> Vec<u64> {
     [text.len() as u64].into_iter().chain(text.bytes().map(u64::from)).collect()
 }
 
-const NAMED: &str = ".i 1\n.o 1\n.ilb A\n.ob A\n.e\n";
-const PLAIN: &str = ".i 1\n.o 1\n.e\n";
+const NAMED: &str = ".i 1\n.o 1\n.ilb A\n.ob A\n.type fr\n.e\n";
+const PLAIN: &str = ".i 1\n.o 1\n.type fr\n.e\n";
 
 #[test]
 fn requests_with_names() {
@@ -167,6 +168,83 @@ fn whose_name_was_looked_up() {
         let failure = "answer 1 is none that lookup gives".to_string();
         assert!(tally.failures().contains(&failure), "{answer:?}");
     }
+}
+
+/// A request to read a text, and one to run it.
+fn read_and_run(text: &str) -> [Request; 2] {
+    let text: Vec<u64> = text.bytes().map(u64::from).collect();
+    let request = |call: u64, rooms: &[usize]| {
+        let lent = rooms.iter().map(|room| vec![7; *room]);
+        let slices = [text.clone()].into_iter().chain(lent).collect();
+        Request { shape: shape_of(call).unwrap(), numbers: vec![], slices }
+    };
+    [request(READ, &[4]), request(RUN, &[4, 4, 4, 40])]
+}
+
+#[test]
+fn refused_for_want_of_the_type_line_alone() {
+    let texts = [
+        (".i 1\n.o 1\n1 0\n.e\n", Outcome::UntypedRow),
+        (".p 1\n.i 1\n.o 1\n- 0\n.e", Outcome::UntypedRow),
+        (".i 1\n.o 1\n.e\n", Outcome::UntypedEnd),
+        // Something else is wrong, or that as well.
+        (".p 2\n.i 1\n.o 1\n1 0\n.e\n", Outcome::Code(11)),
+        (".i 1\n.o 1\n", Outcome::Code(11)),
+        (".i 1\n.o 1\n.type f\n.e\n", Outcome::Code(11)),
+        (".i 1\n.o 1\n1 0\n.type fr\n.e\n", Outcome::Code(11)),
+        (".i 1\n.o 1\n.type fr\nx\n.e\n", Outcome::Code(11)),
+        (PLAIN, Outcome::Code(0)),
+    ];
+    for (text, outcome) in texts {
+        for request in read_and_run(text) {
+            assert_eq!(outcome_of(&request, &request.answer()), Some(outcome), "{text:?}");
+        }
+    }
+}
+
+/// Reading refuses the text with 11.
+fn is_bad(text: &[u8]) -> bool {
+    read(text, &mut []).code == 11
+}
+
+/// The text is bad for want of the type line alone.
+fn lacks_type(text: &[u8]) -> bool {
+    is_bad(text) && !is_bad(&[b".type fr\n", text].concat())
+}
+
+#[test]
+fn seeded_texts_lack_the_type_line_wherever_a_text_is_lent() {
+    let requests: Vec<Request> = requests(5_000, 0).collect();
+    let texts = |call: u64, place: usize| -> Vec<Vec<u8>> {
+        let of_call = requests.iter().filter(|request| request.shape.call == call);
+        of_call.map(|request| request.lent_bytes(place)).collect()
+    };
+    for (call, place) in [(READ, 0), (RUN, 0), (LOOKUP, 0), (LOOKUP, 1), (WRITE, 1), (WRITE, 2)] {
+        let texts = texts(call, place);
+        let some = |what: &str, is_one: &dyn Fn(&[u8]) -> bool| {
+            let count = texts.iter().filter(|text| is_one(text)).count();
+            assert!(count > 0, "call {call}, slice {place}: no text with {what}");
+            count
+        };
+        let good = some("no fault", &|text| !is_bad(text));
+        let lacking = some("no type line alone", &lacks_type);
+        assert!(3 * lacking < good);
+        some("names and no type line", &|text| {
+            lacks_type(text) && found(0, &[b".type fr\n", text].concat(), b"").is_ok()
+        });
+        some("another type", &|text| {
+            let plain = String::from_utf8_lossy(text);
+            is_bad(text) && !is_bad(plain.replace(".type f\n", ".type fr\n").as_bytes())
+        });
+    }
+    // Sizes, and neither type line nor row nor end mark: put in, the type line and the end mark
+    // are enough.
+    let unended = texts(READ, 0).into_iter().filter(|text| {
+        let typed = [b".type fr\n", &text[..]].concat();
+        let whole = read(&[&typed[..], b"\n.e"].concat(), &mut []);
+        is_bad(text) && is_bad(&typed) && (whole.code, whole.count) == (0, 0)
+    });
+    assert!(unended.count() > 0);
 }
 
 #[test]

@@ -31,8 +31,8 @@ fn name_lines_in_any_order_among_the_headers() {
             accepted(format!("{}\n01 10\n.e\n", order.join("\n")).as_bytes());
         }
     }
-    accepted(b"\t.ilb \t a\tb # names\n.ob a b#\xff\n\n.i 2\n#\n.o 2\n01 10\n.e");
-    accepted(b".i 2\n.o 2\n.ilb A a\n.ob A a\n01 10\n.e");
+    accepted(b"\t.ilb \t a\tb # names\n.ob a b#\xff\n\n.i 2\n#\n.o 2\n.type fr\n01 10\n.e");
+    accepted(b".i 2\n.o 2\n.type fr\n.ilb A a\n.ob A a\n01 10\n.e");
 }
 
 #[test]
@@ -40,12 +40,13 @@ fn names_of_every_character() {
     let names = ["abcdefghijklmnop", "qrstuvwxyz012345", "6789_ABCDEFGHIJK", "LMNOPQRSTUVWXYZ_"];
     for name in names.into_iter().chain(["0", "9", "a", "z", "A", "Z", "_", "01", "e", "ilb"]) {
         let line = format!("{name} x");
-        accepted(format!(".i 2\n.o 2\n.ilb {line}\n.ob {line}\n01 10\n.e").as_bytes());
+        accepted(format!(".i 2\n.o 2\n.ilb {line}\n.ob {line}\n.type fr\n01 10\n.e").as_bytes());
     }
     // Every other byte that is neither a blank, nor ends the line, nor begins a comment.
     for byte in (0..=255u8).filter(|byte| !b" \t\n#".contains(byte)) {
         let line = [b"x ", &[byte][..]].concat();
-        let text = [b".i 2\n.o 2\n.ilb ", &line[..], b"\n.ob ", &line, b"\n01 10\n.e"].concat();
+        let rest = b"\n.type fr\n01 10\n.e";
+        let text = [b".i 2\n.o 2\n.ilb ", &line[..], b"\n.ob ", &line, rest].concat();
         if byte.is_ascii_alphabetic() && byte != b'x' || byte.is_ascii_digit() || byte == b'_' {
             accepted(&text);
         } else {
@@ -75,11 +76,12 @@ fn a_name_line_that_is_faulty_itself() {
         for [first, second] in [[&b".ilb "[..], b".ob "], [b".ob ", b".ilb "]] {
             let (line, other) = ([first, names].concat(), [second, names].concat());
             // First of all, after the sizes, and as the second of two.
-            assert_eq!(fault(&[&line[..], b"\n.i 2\n.o 2\n01 10\n.e"].concat()), 1);
-            let both = [b".i 2\n.o 2\n", &line[..], b"\n", &other, b"\n01 10\n.e"].concat();
-            assert_eq!(fault(&both), 3);
-            let later = [b".i 2\n.o 2\n", second, b"a b\n", &line, b"\n01 10\n.e"].concat();
-            assert_eq!(fault(&later), 4);
+            assert_eq!(fault(&[&line[..], b"\n.i 2\n.o 2\n.type fr\n01 10\n.e"].concat()), 1);
+            let headers = b".i 2\n.o 2\n.type fr\n";
+            let both = [headers, &line[..], b"\n", &other, b"\n01 10\n.e"].concat();
+            assert_eq!(fault(&both), 4);
+            let later = [headers, second, b"a b\n", &line, b"\n01 10\n.e"].concat();
+            assert_eq!(fault(&later), 5);
         }
     }
 }
@@ -87,7 +89,7 @@ fn a_name_line_that_is_faulty_itself() {
 #[test]
 fn the_keyword_as_it_is_written() {
     for line in [".ilba b", ".ILB a b", ".Ob a b", "ilb a b", ".il a b", ".o b a b", ".ilb.a b"] {
-        assert_eq!(fault(format!(".i 2\n{line}\n.o 2\n.e").as_bytes()), 2);
+        assert_eq!(fault(format!(".i 2\n{line}\n.o 2\n.type fr\n.e").as_bytes()), 2);
     }
 }
 
@@ -95,23 +97,23 @@ fn the_keyword_as_it_is_written() {
 fn of_two_that_disagree_the_later_is_faulty() {
     let faults = [
         // How many names, against a size before and after.
-        (".i 2\n.ilb a\n.o 2\n.ob a\n.e", 2),
-        (".i 2\n.ob a b c\n.o 2\n.ilb a b c\n.e", 2),
-        (".o 3\n.ilb a b\n.i 3\n.ob a b\n.e", 2),
-        (".ilb a b\n.i 3\n.o 3\n.ob a b\n.e", 2),
-        (".ob a b\n.o 1\n.i 1\n.ilb a b\n.e", 2),
-        (".ilb a b\n.ob a b\n.i 3\n.o 3\n.e", 3),
-        (".i 2\n.ilb a b\n.ob a b\n.o 3\n.e", 4),
+        (".i 2\n.ilb a\n.o 2\n.ob a\n.type fr\n.e", 2),
+        (".i 2\n.ob a b c\n.o 2\n.ilb a b c\n.type fr\n.e", 2),
+        (".o 3\n.ilb a b\n.i 3\n.ob a b\n.type fr\n.e", 2),
+        (".ilb a b\n.i 3\n.o 3\n.ob a b\n.type fr\n.e", 2),
+        (".ob a b\n.o 1\n.i 1\n.ilb a b\n.type fr\n.e", 2),
+        (".ilb a b\n.ob a b\n.i 3\n.o 3\n.type fr\n.e", 3),
+        (".i 2\n.ilb a b\n.ob a b\n.o 3\n.type fr\n.e", 4),
         // Against the other name line.
-        (".ilb a b\n.ob a\n.i 2\n.o 2\n.e", 2),
-        (".ob a b\n.ilb a b c\n.i 2\n.o 2\n.e", 2),
-        (".i 2\n.o 2\n.ilb a b\n.ob a\n.e", 4),
+        (".ilb a b\n.ob a\n.i 2\n.o 2\n.type fr\n.e", 2),
+        (".ob a b\n.ilb a b c\n.i 2\n.o 2\n.type fr\n.e", 2),
+        (".i 2\n.o 2\n.ilb a b\n.ob a\n.type fr\n.e", 4),
         // Names that differ.
-        (".ilb a b\n.ob a c\n.i 2\n.o 2\n.e", 2),
-        (".i 2\n.o 2\n.ilb a b\n.ob b a\n.e", 4),
-        (".i 2\n.o 2\n.ob a b\n.ilb a B\n.e", 4),
-        (".i 2\n.o 2\n.ilb a b\n.ob a bb\n.e", 4),
-        (".i 2\n.o 2\n.ilb abcdefghijklmnop b\n.ob abcdefghijklmnoq b\n.e", 4),
+        (".ilb a b\n.ob a c\n.i 2\n.o 2\n.type fr\n.e", 2),
+        (".i 2\n.o 2\n.ilb a b\n.ob b a\n.type fr\n.e", 4),
+        (".i 2\n.o 2\n.ob a b\n.ilb a B\n.type fr\n.e", 4),
+        (".i 2\n.o 2\n.ilb a b\n.ob a bb\n.type fr\n.e", 4),
+        (".i 2\n.o 2\n.ilb abcdefghijklmnop b\n.ob abcdefghijklmnoq b\n.type fr\n.e", 4),
     ];
     for (text, line) in faults {
         assert_eq!(fault(text.as_bytes()), line, "{text:?}");
@@ -122,23 +124,23 @@ fn of_two_that_disagree_the_later_is_faulty() {
 fn both_once_each_before_the_first_row() {
     let faults = [
         // One alone: the first row, or else the end mark.
-        (".i 2\n.o 2\n.ilb a b\n01 10\n.e", 4),
-        (".i 2\n.o 2\n.ob a b\n\n01 10\n.ilb a b\n.e", 5),
-        (".ilb a b\n.i 2\n.o 2\n.e", 4),
-        (".ob a b\n.i 2\n.o 2\n.p 0\n.end", 5),
+        (".i 2\n.o 2\n.type fr\n.ilb a b\n01 10\n.e", 5),
+        (".i 2\n.o 2\n.type fr\n.ob a b\n\n01 10\n.ilb a b\n.e", 6),
+        (".ilb a b\n.i 2\n.o 2\n.type fr\n.e", 5),
+        (".ob a b\n.i 2\n.o 2\n.type fr\n.p 0\n.end", 6),
         // One alone and no end mark: the number after the last line.
-        (".i 2\n.o 2\n.ilb a b\n", 4),
+        (".i 2\n.o 2\n.type fr\n.ilb a b\n", 5),
         (".ilb a b", 2),
         // Twice.
-        (".ilb a b\n.ilb a b\n.ob a b\n.i 2\n.o 2\n.e", 2),
-        (".i 2\n.o 2\n.ilb a b\n.ob a b\n.ob a b\n.e", 5),
+        (".ilb a b\n.ilb a b\n.ob a b\n.i 2\n.o 2\n.type fr\n.e", 2),
+        (".i 2\n.o 2\n.type fr\n.ilb a b\n.ob a b\n.ob a b\n.e", 6),
         // After a row, after the end.
-        (".i 2\n.o 2\n.ilb a b\n.ob a b\n01 10\n.ilb a b\n.e", 6),
-        (".i 2\n.o 2\n01 10\n.ilb a b\n.ob a b\n.e", 4),
-        (".i 2\n.o 2\n.e\n.ilb a b\n.ob a b\n", 4),
+        (".i 2\n.o 2\n.type fr\n.ilb a b\n.ob a b\n01 10\n.ilb a b\n.e", 7),
+        (".i 2\n.o 2\n.type fr\n01 10\n.ilb a b\n.ob a b\n.e", 5),
+        (".i 2\n.o 2\n.type fr\n.e\n.ilb a b\n.ob a b\n", 5),
         // The number after `.p` waits for them.
-        (".p 3\n.i 2\n.o 2\n.ilb a b\n01 10\n.e", 5),
-        (".p 3\n.i 2\n.o 2\n.ilb a b\n.ob a b\n01 10\n.e", 1),
+        (".p 3\n.i 2\n.o 2\n.type fr\n.ilb a b\n01 10\n.e", 6),
+        (".p 3\n.i 2\n.o 2\n.type fr\n.ilb a b\n.ob a b\n01 10\n.e", 1),
     ];
     for (text, line) in faults {
         assert_eq!(fault(text.as_bytes()), line, "{text:?}");
@@ -148,26 +150,29 @@ fn both_once_each_before_the_first_row() {
 #[test]
 fn ten_names_and_eleven() {
     let names = "0 1 2 3 4 5 6 7 8 9";
-    let text = |names: &str| format!(".ilb {names}\n.ob {names}\n.i 10\n.o 10\n.e");
+    let text = |names: &str| format!(".ilb {names}\n.ob {names}\n.i 10\n.o 10\n.type fr\n.e");
     assert_eq!(read(text(names).as_bytes(), &mut []).n, 10);
     assert_eq!(fault(text(&format!("{names} a")).as_bytes()), 1);
-    let one = b".ob a\n.ilb a\n.o 1\n.i 1\n.e";
+    let one = b".ob a\n.ilb a\n.o 1\n.i 1\n.type fr\n.e";
     assert_eq!(read(one, &mut []).n, 1);
 }
 
-const THREE: &[u8] = b".i 3\n.o 3\n.ob PUMP v_2 F\n.ilb\tPUMP  v_2 F#x\n.e\n";
-const FIVE: &[u8] = b".ilb a b c d e\n.ob a b c d e\n.i 5\n.o 5\n.e";
-const PLAIN: &[u8] = b".i 4\n.o 4\n1111 0000\n.e\n";
+const THREE: &[u8] = b".i 3\n.o 3\n.ob PUMP v_2 F\n.ilb\tPUMP  v_2 F#x\n.type fr\n.e\n";
+const FIVE: &[u8] = b".ilb a b c d e\n.ob a b c d e\n.i 5\n.o 5\n.type fr\n.e";
+const PLAIN: &[u8] = b".i 4\n.o 4\n.type fr\n1111 0000\n.e\n";
 
 /// Texts that reading refuses with 11.
-const BAD: [&[u8]; 7] = [
+const BAD: [&[u8]; 10] = [
     b"",
     b"\n",
-    b".i 3\n.o 3\n.ilb a b c\n.ob a b c\n",
-    b".i 3\n.o 3\n.ilb a b c\n.e\n",
-    b".i 3\n.o 3\n.ilb a b c\n.ob a b d\n.e\n",
-    b".p 1\n.i 3\n.o 3\n.ilb a b c\n.ob a b c\n.e\n",
-    b".p 0\n.i 1\n.o 1\n1 1\n.e\n",
+    b".i 3\n.o 3\n.type fr\n.ilb a b c\n.ob a b c\n",
+    b".i 3\n.o 3\n.type fr\n.ilb a b c\n.e\n",
+    b".i 3\n.o 3\n.type fr\n.ilb a b c\n.ob a b d\n.e\n",
+    b".p 1\n.i 3\n.o 3\n.type fr\n.ilb a b c\n.ob a b c\n.e\n",
+    b".p 0\n.i 1\n.o 1\n.type fr\n1 1\n.e\n",
+    b".i 3\n.o 3\n.ilb a b c\n.ob a b c\n.e\n",
+    b".i 3\n.o 3\n.e\n",
+    b".i 3\n.o 3\n.type f\n.ilb a b c\n.ob a b c\n.e\n",
 ];
 
 /// Columns that no panel has; the third and fourth would be some by their last 32 bits.
@@ -302,9 +307,9 @@ fn the_program_keeps_the_names() {
     };
     let names = ".ilb a B\n.ob a B\n";
     let rules = ".type f\n.p 2\n-- 10\n-- 01\n.e\n";
-    check(&format!("{names}.o 2\n.i 2\n.e"), &format!(".i 2\n.o 2\n{names}{rules}"));
-    check(".o 2\n.i 2\n.e", &format!(".i 2\n.o 2\n{rules}"));
-    check(".i 2\n.o 2\n.ilb a B\n11 11\n.e", "refused 11 at 4\n");
-    check(".i 2\n.o 2\n.ob a B\n.e", "refused 11 at 4\n");
-    check(".i 2\n.o 2\n.ilb a B\n.ob a C\n.e", "refused 11 at 4\n");
+    check(&format!("{names}.o 2\n.i 2\n.type fr\n.e"), &format!(".i 2\n.o 2\n{names}{rules}"));
+    check(".o 2\n.i 2\n.type fr\n.e", &format!(".i 2\n.o 2\n{rules}"));
+    check(".i 2\n.o 2\n.type fr\n.ilb a B\n11 11\n.e", "refused 11 at 5\n");
+    check(".i 2\n.o 2\n.type fr\n.ob a B\n.e", "refused 11 at 5\n");
+    check(".i 2\n.o 2\n.type fr\n.ilb a B\n.ob a C\n.e", "refused 11 at 5\n");
 }

@@ -271,15 +271,19 @@ fn totals_at_their_edge() {
 #[test]
 fn reading_judges_the_layout_before_the_room() {
     let mut list = [7; 3];
-    let reading = read(b".i 2\n.o 2\n-- 01\n.e", &mut list);
+    let reading = read(b".i 2\n.o 2\n.type fr\n-- 01\n.e", &mut list);
     assert_eq!((reading, list), (Reading { code: 8, ..Reading::default() }, [0; 3]));
     list = [7; 3];
-    let reading = read(b".i 2\n.o 2\n-- 01\n", &mut list);
-    assert_eq!((reading, list), (Reading { code: 11, place: 4, n: 0, count: 0 }, [0; 3]));
+    let reading = read(b".i 2\n.o 2\n.type fr\n-- 01\n", &mut list);
+    assert_eq!((reading, list), (Reading { code: 11, place: 5, n: 0, count: 0 }, [0; 3]));
     list = [7; 3];
-    let reading = read(b".p 4\n.i 2\n.o 2\n-- 01\n.e", &mut list);
+    let reading = read(b".i 2\n.o 2\n-- 01\n.e", &mut list);
+    assert_eq!((reading, list), (Reading { code: 11, place: 3, n: 0, count: 0 }, [0; 3]));
+    list = [7; 3];
+    let reading = read(b".p 4\n.i 2\n.o 2\n.type fr\n-- 01\n.e", &mut list);
     assert_eq!((reading, list), (Reading { code: 11, place: 1, n: 0, count: 0 }, [0; 3]));
-    assert_eq!(read(b".i 2\n.o 2\n.e", &mut []), Reading { n: 2, ..Reading::default() });
+    let done = Reading { n: 2, ..Reading::default() };
+    assert_eq!(read(b".i 2\n.o 2\n.type fr\n.e", &mut []), done);
 }
 
 /// What run prints, and the three word slices after it; each slice is full of 7 before.
@@ -294,7 +298,7 @@ fn ran(input: &[u8], rooms: [usize; 4]) -> (String, [Vec<u32>; 3]) {
 
 #[test]
 fn run_leaves_what_the_inner_calls_leave() {
-    let text = b".i 1\n.o 1\n1 0\n.e\n";
+    let text = b".i 1\n.o 1\n.type fr\n1 0\n.e\n";
     let sheet = ".i 1\n.o 1\n.type f\n.p 1\n0 1\n.e\n";
     let done = |printed: &str, slices: [&[u32]; 3]| {
         (printed.to_string(), slices.map(|slice| slice.to_vec()))
@@ -310,7 +314,7 @@ fn run_leaves_what_the_inner_calls_leave() {
     assert_eq!(ran(b"x", [2, 2, 2, 99]), done("refused 11 at 1\n", [&[0, 0], &[7, 7], &[7, 7]]));
     assert_eq!(ran(b"x", [2, 2, 2, 16]), done("refused 11 at 1\n", [&[0, 0], &[7, 7], &[7, 7]]));
     assert_eq!(ran(b"x", [2, 2, 2, 15]), done("", [&[0, 0], &[7, 7], &[7, 7]]));
-    let conflict = b".i 1\n.o 1\n1 0\n- 1\n.e\n";
+    let conflict = b".i 1\n.o 1\n.type fr\n1 0\n- 1\n.e\n";
     assert_eq!(
         ran(conflict, [4, 2, 2, 99]),
         done("refused 7 at 2\n", [&[1024, 1, 1025, 0], &[0, 0], &[0, 0]])

@@ -81,7 +81,7 @@ fresh-none (Names Outs) = refl
 fresh-none TypeWord = refl
 fresh-none Count = refl
 
-asked-has : (lay : Layout) (s : Seen) (h : Header) → lacks lay s h ≡ false → asks lay s h ≡ true → hasHeader s h ≡ true
+pub asked-has : (lay : Layout) (s : Seen) (h : Header) → lacks lay s h ≡ false → asks lay s h ≡ true → hasHeader s h ≡ true
 unfolding lacks
 asked-has lay s h l a = go (hasHeader s h) (asks lay s h) l a
   where

@@ -19,7 +19,7 @@ use Rattle.headers.specs.Layouts.{recording}
 use Rattle.headers.specs.Headers.{lacks, lacksNone, readyOf, rowFits, openOf, fitsOf, headerAllowed, endAllowed, rowAllowed, named, allowedBy, allowedAt, nextAt}
 use Rattle.headers.specs.Verdicts.{finishOf, judgeLines, judgeOf}
 use Rattle.headers.specs.Accepted.{times, rowsIn, Accepted}
-use Rattle.headers.specs.Places.{Begins, endIn, FaultyLine, EndMissing, WrongCount, Place}
+use Rattle.headers.specs.Places.{Begins, endIn, FaultyLine, Untyped, EndMissing, WrongCount, Place}
 use Rattle.headers.specs.declared.Header.{Header}
 use Rattle.headers.specs.declared.Header.the-variants.{Size, Names, TypeWord, Count}
 use Rattle.headers.specs.declared.Verdict.{Verdict}
@@ -27,6 +27,7 @@ use Rattle.headers.specs.declared.Verdict.the-variants.{Good, Bad}
 use Rattle.headers.proofs.Passing.{allPass}
 use Rattle.headers.proofs.Accepting.{good-iff-text}
 use Rattle.headers.proofs.PlaceLaws.{passes-begins, begins-passes, bad-iff-place}
+use Rattle.headers.proofs.TypeLines.{untyped-bad}
 
 -- ---- lines, each with its LF
 
@@ -121,34 +122,47 @@ abbrev Judged : List (List ℕ × Verdict) → Type 0
 Judged [] = Unit {0}
 Judged (e ∷ es) = (judgeOf recording (e .0) ≡ e .1) × Judged es
 
--- accepted: headers in any order, with and without `.type` and `.p`, with dashes for states, no rows;
+-- accepted: headers in any order, with and without `.p`, with dashes for states, no rows;
 -- refused: no lines; the later of unequal sizes; `.i`, `.type`, `.p` twice; `.type f`; a row, the end mark before both sizes; `.type`, `.p`,
 -- `.i` after a row; a row too wide; `-` in outputs; a row, the end mark, a header after the end mark; no end mark; the wrong number of rows,
 -- and the same with another fault
 abbrev texts : List (List ℕ × Verdict)
 texts =
-    (i1 ++ o1 ++ row ++ end, Good 1)
+    (i1 ++ o1 ++ fr ++ row ++ end, Good 1)
     ∷ (o1 ++ note ++ fr ++ p2 ++ i1 ++ blank ++ row ++ note ++ dash ++ end ++ blank ++ note, Good 1)
-    ∷ (i1 ++ o1 ++ p0 ++ end, Good 1)
+    ∷ (i1 ++ o1 ++ p0 ++ fr ++ end, Good 1)
     ∷ ([], Bad 1)
-    ∷ (i1 ++ o2 ++ row ++ end, Bad 2)
-    ∷ (i1 ++ i1 ++ o1 ++ end, Bad 2)
+    ∷ (i1 ++ o2 ++ fr ++ row ++ end, Bad 2)
+    ∷ (i1 ++ i1 ++ o1 ++ fr ++ end, Bad 2)
     ∷ (i1 ++ o1 ++ fr ++ fr ++ row ++ end, Bad 4)
-    ∷ (i1 ++ o1 ++ p1 ++ p1 ++ row ++ end, Bad 4)
-    ∷ (f ++ i1 ++ o1 ++ row ++ end, Bad 1)
-    ∷ (i1 ++ row ++ o1 ++ end, Bad 2)
-    ∷ (i1 ++ end, Bad 2)
-    ∷ (i1 ++ o1 ++ row ++ fr ++ end, Bad 4)
-    ∷ (i1 ++ o1 ++ row ++ p1 ++ end, Bad 4)
-    ∷ (i1 ++ o1 ++ row ++ i1 ++ end, Bad 4)
-    ∷ (i1 ++ o1 ++ wide ++ end, Bad 3)
-    ∷ (i1 ++ o1 ++ unread ++ end, Bad 3)
-    ∷ (i1 ++ o1 ++ end ++ row, Bad 4)
-    ∷ (i1 ++ o1 ++ end ++ end, Bad 4)
-    ∷ (i1 ++ o1 ++ end ++ fr, Bad 4)
-    ∷ (i1 ++ o1 ++ row ++ blank, Bad 5)
-    ∷ (i1 ++ p2 ++ o1 ++ row ++ end, Bad 2)
-    ∷ (i1 ++ p2 ++ o1 ++ row ++ unread ++ end, Bad 5)
+    ∷ (i1 ++ o1 ++ p1 ++ p1 ++ fr ++ row ++ end, Bad 4)
+    ∷ (f ++ i1 ++ o1 ++ fr ++ row ++ end, Bad 1)
+    ∷ (i1 ++ fr ++ row ++ o1 ++ end, Bad 3)
+    ∷ (i1 ++ fr ++ end, Bad 3)
+    ∷ (i1 ++ o1 ++ fr ++ row ++ fr ++ end, Bad 5)
+    ∷ (i1 ++ o1 ++ fr ++ row ++ p1 ++ end, Bad 5)
+    ∷ (i1 ++ o1 ++ fr ++ row ++ i1 ++ end, Bad 5)
+    ∷ (i1 ++ o1 ++ fr ++ wide ++ end, Bad 4)
+    ∷ (i1 ++ o1 ++ fr ++ unread ++ end, Bad 4)
+    ∷ (i1 ++ o1 ++ fr ++ end ++ row, Bad 5)
+    ∷ (i1 ++ o1 ++ fr ++ end ++ end, Bad 5)
+    ∷ (i1 ++ o1 ++ fr ++ end ++ p0, Bad 5)
+    ∷ (i1 ++ o1 ++ fr ++ row ++ blank, Bad 6)
+    ∷ (i1 ++ p2 ++ o1 ++ fr ++ row ++ end, Bad 2)
+    ∷ (i1 ++ p2 ++ o1 ++ fr ++ row ++ unread ++ end, Bad 6)
+    ∷ []
+
+-- with no type line before it: the first row; the end mark, of a text with no rows; the first row, though the type line follows it, and though
+-- the number after `.p` is wrong; the same with names; neither row nor end mark; `.type f` is faulty itself
+abbrev untyped-texts : List (List ℕ × Verdict)
+untyped-texts =
+    (i1 ++ o1 ++ row ++ row ++ end, Bad 3)
+    ∷ (i1 ++ o1 ++ note ++ end, Bad 4)
+    ∷ (i1 ++ o1 ++ row ++ fr ++ end, Bad 3)
+    ∷ (i1 ++ p2 ++ o1 ++ row ++ end, Bad 4)
+    ∷ (i1 ++ o1 ++ ilbA ++ obA ++ row ++ end, Bad 5)
+    ∷ (i1 ++ o1, Bad 3)
+    ∷ (i1 ++ o1 ++ f ++ row ++ end, Bad 3)
     ∷ []
 
 -- with names, accepted: behind the sizes, and in any order among the headers;
@@ -156,23 +170,27 @@ texts =
 -- row; one line alone, at the first row and at the end mark
 abbrev named-texts : List (List ℕ × Verdict)
 named-texts =
-    (i1 ++ o1 ++ ilbA ++ obA ++ row ++ end, Good 1)
+    (i1 ++ o1 ++ ilbA ++ obA ++ fr ++ row ++ end, Good 1)
     ∷ (obA ++ fr ++ o1 ++ note ++ ilbA ++ p1 ++ i1 ++ row ++ end, Good 1)
-    ∷ (i1 ++ ilbA ++ o1 ++ obB ++ row ++ end, Bad 4)
-    ∷ (i1 ++ ilbAB ++ o1 ++ row ++ end, Bad 2)
-    ∷ (ilbAB ++ i1 ++ o1 ++ row ++ end, Bad 2)
-    ∷ (ilbAB ++ obA ++ row ++ end, Bad 2)
-    ∷ (ilbA ++ ilbA ++ row ++ end, Bad 2)
-    ∷ (ilbAA ++ end, Bad 1)
-    ∷ (i1 ++ o1 ++ ilbNone ++ end, Bad 3)
-    ∷ (i1 ++ o1 ++ row ++ ilbA ++ obA ++ end, Bad 4)
-    ∷ (i1 ++ ilbA ++ o1 ++ row ++ end, Bad 4)
-    ∷ (obA ++ i1 ++ o1 ++ end, Bad 4)
+    ∷ (i1 ++ ilbA ++ o1 ++ obB ++ fr ++ row ++ end, Bad 4)
+    ∷ (i1 ++ ilbAB ++ o1 ++ fr ++ row ++ end, Bad 2)
+    ∷ (ilbAB ++ i1 ++ o1 ++ fr ++ row ++ end, Bad 2)
+    ∷ (ilbAB ++ obA ++ fr ++ row ++ end, Bad 2)
+    ∷ (ilbA ++ ilbA ++ fr ++ row ++ end, Bad 2)
+    ∷ (ilbAA ++ fr ++ end, Bad 1)
+    ∷ (i1 ++ o1 ++ ilbNone ++ fr ++ end, Bad 3)
+    ∷ (i1 ++ o1 ++ fr ++ row ++ ilbA ++ obA ++ end, Bad 5)
+    ∷ (i1 ++ ilbA ++ o1 ++ fr ++ row ++ end, Bad 5)
+    ∷ (obA ++ i1 ++ o1 ++ fr ++ end, Bad 5)
     ∷ []
 
 pub texts-judged : Judged texts
 unfolding markOf run same body linesOf fieldsFrom fieldsIn cubeOf digits numberOf otherKey keyOf typedOf rowLine classOf ofFields lineOf nameByte allName nameOk holds goodNames namesCount sameFields namesIn lacks lacksNone readyOf rowFits openOf fitsOf headerAllowed endAllowed rowAllowed named allowedBy allowedAt nextAt finishOf judgeLines judgeOf
 texts-judged = (refl, (refl, (refl, (refl, (refl, (refl, (refl, (refl, (refl, (refl, (refl, (refl, (refl, (refl, (refl, (refl, (refl, (refl, (refl, (refl, (refl, (refl, tt))))))))))))))))))))))
+
+pub untyped-judged : Judged untyped-texts
+unfolding markOf run same body linesOf fieldsFrom fieldsIn cubeOf digits numberOf otherKey keyOf typedOf rowLine classOf ofFields lineOf nameByte allName nameOk holds goodNames namesCount sameFields namesIn lacks lacksNone readyOf rowFits openOf fitsOf headerAllowed endAllowed rowAllowed named allowedBy allowedAt nextAt finishOf judgeLines judgeOf
+untyped-judged = (refl, (refl, (refl, (refl, (refl, (refl, (refl, tt)))))))
 
 pub named-judged : Judged named-texts
 unfolding markOf run same body linesOf fieldsFrom fieldsIn cubeOf digits numberOf otherKey keyOf typedOf rowLine classOf ofFields lineOf nameByte allName nameOk holds goodNames namesCount sameFields namesIn lacks lacksNone readyOf rowFits openOf fitsOf headerAllowed endAllowed rowAllowed named allowedBy allowedAt nextAt finishOf judgeLines judgeOf
@@ -195,32 +213,36 @@ meant : (es : List (List ℕ × Verdict)) → Judged es → Meant es
 meant [] h = tt
 meant (e ∷ es) h = (means (e .0) (e .1) (h .0), meant es (h .1))
 
-pub texts-meant : Meant texts × Meant named-texts
-texts-meant = (meant texts texts-judged, meant named-texts named-judged)
+pub texts-meant : Meant texts × (Meant untyped-texts × Meant named-texts)
+texts-meant = (meant texts texts-judged, (meant untyped-texts untyped-judged, meant named-texts named-judged))
 
 -- ---- an accepted text by hand
 
 abbrev pub whole : List ℕ
-whole = i1 ++ o1 ++ row ++ end
+whole = i1 ++ o1 ++ fr ++ row ++ end
 
-abbrev sizes : List (List ℕ)
-sizes = (46 ∷ 105 ∷ 32 ∷ 49 ∷ []) ∷ (46 ∷ 111 ∷ 32 ∷ 49 ∷ []) ∷ []
+abbrev heads : List (List ℕ)
+heads = (46 ∷ 105 ∷ 32 ∷ 49 ∷ []) ∷ (46 ∷ 111 ∷ 32 ∷ 49 ∷ []) ∷ (46 ∷ 116 ∷ 121 ∷ 112 ∷ 101 ∷ 32 ∷ 102 ∷ 114 ∷ []) ∷ []
 
-sizes-once : (h : Header) → times h sizes ≤ 1
+heads-once : (h : Header) → times h heads ≤ 1
 unfolding times markOf run same body fieldsFrom fieldsIn digits numberOf otherKey keyOf typedOf classOf ofFields lineOf
-sizes-once (Size Ins) = omega arith
-sizes-once (Size Outs) = omega arith
-sizes-once (Names Ins) = omega arith
-sizes-once (Names Outs) = omega arith
-sizes-once TypeWord = omega arith
-sizes-once Count = omega arith
+heads-once (Size Ins) = omega arith
+heads-once (Size Outs) = omega arith
+heads-once (Names Ins) = omega arith
+heads-once (Names Outs) = omega arith
+heads-once TypeWord = omega arith
+heads-once Count = omega arith
 
-sizes-both : (p : Part) → times (Size p) sizes ≡ 1
+heads-sized : (p : Part) → times (Size p) heads ≡ 1
 unfolding times markOf run same body fieldsFrom fieldsIn digits numberOf otherKey keyOf typedOf classOf ofFields lineOf
-sizes-both Ins = refl
-sizes-both Outs = refl
+heads-sized Ins = refl
+heads-sized Outs = refl
 
-no-names : times (Names Ins) sizes ≡ times (Names Outs) sizes
+heads-typed : times TypeWord heads ≡ 1
+unfolding times markOf run same body fieldsFrom fieldsIn digits numberOf otherKey keyOf typedOf classOf ofFields lineOf
+heads-typed = refl
+
+no-names : times (Names Ins) heads ≡ times (Names Outs) heads
 unfolding times markOf run same body fieldsFrom fieldsIn digits numberOf otherKey keyOf typedOf classOf ofFields lineOf
 no-names = refl
 
@@ -228,16 +250,16 @@ pub whole-accepted : Accepted recording 1 whole
 unfolding markOf run same body linesOf fieldsFrom fieldsIn cubeOf digits numberOf otherKey keyOf typedOf rowLine classOf ofFields lineOf
 whole-accepted =
     record {
-      top = sizes;
+      top = heads;
       middle = (49 ∷ 32 ∷ 48 ∷ []) ∷ [];
       mark = 46 ∷ 101 ∷ [];
       rest = [];
       names = [];
       lines = refl;
-      headers = (refl, (refl, tt));
-      once = sizes-once;
-      sized = sizes-both;
-      typed = λ e. absurd (false≢true e);
+      headers = (refl, (refl, (refl, tt)));
+      once = heads-once;
+      sized = heads-sized;
+      typed = λ e. heads-typed;
       both = no-names;
       rows = (inr (record { on = 1; off = 0; free = 0; next = 0; unread = 0; width = 1 }, refl, record { width = refl; inputs = λ e. absurd (false≢true (sym e)); outputs = λ e. refl; single = λ e. absurd (false≢true e) }), tt);
       ends = refl;
@@ -247,10 +269,10 @@ whole-accepted =
 -- ---- the same with names
 
 abbrev pub named-whole : List ℕ
-named-whole = i1 ++ o1 ++ ilbA ++ obA ++ row ++ end
+named-whole = i1 ++ o1 ++ ilbA ++ obA ++ fr ++ row ++ end
 
 abbrev headers : List (List ℕ)
-headers = (46 ∷ 105 ∷ 32 ∷ 49 ∷ []) ∷ (46 ∷ 111 ∷ 32 ∷ 49 ∷ []) ∷ (46 ∷ 105 ∷ 108 ∷ 98 ∷ 32 ∷ 65 ∷ []) ∷ (46 ∷ 111 ∷ 98 ∷ 32 ∷ 65 ∷ 35 ∷ 66 ∷ []) ∷ []
+headers = (46 ∷ 105 ∷ 32 ∷ 49 ∷ []) ∷ (46 ∷ 111 ∷ 32 ∷ 49 ∷ []) ∷ (46 ∷ 105 ∷ 108 ∷ 98 ∷ 32 ∷ 65 ∷ []) ∷ (46 ∷ 111 ∷ 98 ∷ 32 ∷ 65 ∷ 35 ∷ 66 ∷ []) ∷ (46 ∷ 116 ∷ 121 ∷ 112 ∷ 101 ∷ 32 ∷ 102 ∷ 114 ∷ []) ∷ []
 
 headers-once : (h : Header) → times h headers ≤ 1
 unfolding times markOf run same body fieldsFrom fieldsIn digits numberOf otherKey keyOf typedOf classOf ofFields lineOf nameByte allName nameOk holds goodNames namesCount
@@ -266,6 +288,10 @@ unfolding times markOf run same body fieldsFrom fieldsIn digits numberOf otherKe
 headers-sized Ins = refl
 headers-sized Outs = refl
 
+headers-typed : times TypeWord headers ≡ 1
+unfolding times markOf run same body fieldsFrom fieldsIn digits numberOf otherKey keyOf typedOf classOf ofFields lineOf nameByte allName nameOk holds goodNames namesCount
+headers-typed = refl
+
 headers-both : times (Names Ins) headers ≡ times (Names Outs) headers
 unfolding times markOf run same body fieldsFrom fieldsIn digits numberOf otherKey keyOf typedOf classOf ofFields lineOf nameByte allName nameOk holds goodNames namesCount
 headers-both = refl
@@ -280,10 +306,10 @@ named-accepted =
       rest = [];
       names = (65 ∷ []) ∷ [];
       lines = refl;
-      headers = (refl, (refl, ((refl, refl), ((refl, refl), tt))));
+      headers = (refl, (refl, ((refl, refl), ((refl, refl), (refl, tt)))));
       once = headers-once;
       sized = headers-sized;
-      typed = λ e. absurd (false≢true e);
+      typed = λ e. headers-typed;
       both = headers-both;
       rows = (inr (record { on = 1; off = 0; free = 0; next = 0; unread = 0; width = 1 }, refl, record { width = refl; inputs = λ e. absurd (false≢true (sym e)); outputs = λ e. refl; single = λ e. absurd (false≢true e) }), tt);
       ends = refl;
@@ -307,36 +333,58 @@ unfolding markOf run same body linesOf fieldsFrom fieldsIn cubeOf digits numberO
 sizes-begin = passes-begins recording (linesOf (i1 ++ o1)) (lines-no-feeds (i1 ++ o1)) refl
 
 -- a header after a row
-pub header-faulty : FaultyLine recording (i1 ++ o1 ++ row ++ fr ++ end) 4
+pub header-faulty : FaultyLine recording (i1 ++ o1 ++ fr ++ row ++ p1 ++ end) 5
 unfolding markOf run same body linesOf fieldsFrom fieldsIn cubeOf digits numberOf otherKey keyOf typedOf rowLine classOf ofFields lineOf nameByte allName nameOk holds goodNames namesCount sameFields namesIn lacks lacksNone readyOf rowFits openOf fitsOf headerAllowed endAllowed rowAllowed named allowedBy allowedAt nextAt allPass
 header-faulty =
     record {
-      before = linesOf (i1 ++ o1 ++ row);
-      line = 46 ∷ 116 ∷ 121 ∷ 112 ∷ 101 ∷ 32 ∷ 102 ∷ 114 ∷ [];
+      before = linesOf (i1 ++ o1 ++ fr ++ row);
+      line = 46 ∷ 112 ∷ 32 ∷ 49 ∷ [];
       after = linesOf end;
       lines = refl;
       number = refl;
-      begins = passes-begins recording (linesOf (i1 ++ o1 ++ row)) (lines-no-feeds (i1 ++ o1 ++ row)) refl;
-      begins-no-more = λ b. false≢true (begins-passes recording (linesOf (i1 ++ o1 ++ row ++ fr)) b);
+      begins = passes-begins recording (linesOf (i1 ++ o1 ++ fr ++ row)) (lines-no-feeds (i1 ++ o1 ++ fr ++ row)) refl;
+      begins-no-more = λ b. false≢true (begins-passes recording (linesOf (i1 ++ o1 ++ fr ++ row ++ p1)) b);
     }
 
-pub end-missing : EndMissing recording (i1 ++ o1 ++ row) 4
+-- a row, and the end mark of a text without rows, with no type line before it (02, Ask 2)
+pub row-untyped : Untyped recording (i1 ++ o1 ++ row ++ end) 3
+unfolding markOf run same body linesOf fieldsFrom fieldsIn cubeOf digits numberOf otherKey keyOf typedOf rowLine classOf ofFields lineOf nameByte allName nameOk holds goodNames namesCount sameFields namesIn lacks lacksNone readyOf rowFits openOf fitsOf headerAllowed endAllowed rowAllowed named allowedBy allowedAt nextAt allPass times
+row-untyped =
+    record {
+      before = linesOf (i1 ++ o1);
+      line = 49 ∷ 32 ∷ 48 ∷ [];
+      after = linesOf end;
+      lines = refl;
+      number = refl;
+      begins = sizes-begin;
+      none = refl;
+      ends = refl;
+    }
+
+pub end-untyped : Untyped recording (i1 ++ o1 ++ end) 3
+unfolding markOf run same body linesOf fieldsFrom fieldsIn cubeOf digits numberOf otherKey keyOf typedOf rowLine classOf ofFields lineOf nameByte allName nameOk holds goodNames namesCount sameFields namesIn lacks lacksNone readyOf rowFits openOf fitsOf headerAllowed endAllowed rowAllowed named allowedBy allowedAt nextAt allPass times
+end-untyped = record { before = linesOf (i1 ++ o1); line = 46 ∷ 101 ∷ []; after = []; lines = refl; number = refl; begins = sizes-begin; none = refl; ends = refl }
+
+pub untyped-refused : (judgeOf recording (i1 ++ o1 ++ row ++ end) ≡ Bad 3) × (judgeOf recording (i1 ++ o1 ++ end) ≡ Bad 3)
+untyped-refused = (untyped-bad recording refl _ 3 row-untyped, untyped-bad recording refl _ 3 end-untyped)
+
+pub end-missing : EndMissing recording (i1 ++ o1 ++ fr ++ row) 5
 unfolding markOf run same body linesOf fieldsFrom fieldsIn cubeOf digits numberOf otherKey keyOf typedOf rowLine classOf ofFields lineOf nameByte allName nameOk holds goodNames namesCount sameFields namesIn lacks lacksNone readyOf rowFits openOf fitsOf headerAllowed endAllowed rowAllowed named allowedBy allowedAt nextAt allPass endIn
 end-missing =
-    record { begins = passes-begins recording (linesOf (i1 ++ o1 ++ row)) (lines-no-feeds (i1 ++ o1 ++ row)) refl; endless = refl; number = refl }
+    record { begins = passes-begins recording (linesOf (i1 ++ o1 ++ fr ++ row)) (lines-no-feeds (i1 ++ o1 ++ fr ++ row)) refl; endless = refl; number = refl }
 
-pub count-wrong : WrongCount recording (i1 ++ p2 ++ o1 ++ row ++ end) 2
+pub count-wrong : WrongCount recording (i1 ++ p2 ++ o1 ++ fr ++ row ++ end) 2
 unfolding markOf run same body linesOf fieldsFrom fieldsIn cubeOf digits numberOf otherKey keyOf typedOf rowLine classOf ofFields lineOf nameByte allName nameOk holds goodNames namesCount sameFields namesIn lacks lacksNone readyOf rowFits openOf fitsOf headerAllowed endAllowed rowAllowed named allowedBy allowedAt nextAt allPass endIn rowsIn
 count-wrong =
     record {
       before = linesOf i1;
       line = 46 ∷ 112 ∷ 32 ∷ 50 ∷ [];
-      after = linesOf (o1 ++ row ++ end);
+      after = linesOf (o1 ++ fr ++ row ++ end);
       count = 2;
       lines = refl;
       number = refl;
       counts = refl;
-      begins = passes-begins recording (linesOf (i1 ++ p2 ++ o1 ++ row ++ end)) (lines-no-feeds (i1 ++ p2 ++ o1 ++ row ++ end)) refl;
+      begins = passes-begins recording (linesOf (i1 ++ p2 ++ o1 ++ fr ++ row ++ end)) (lines-no-feeds (i1 ++ p2 ++ o1 ++ fr ++ row ++ end)) refl;
       ended = refl;
       wrong = λ e. omega (arith, e);
     }

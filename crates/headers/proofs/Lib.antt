@@ -10,5 +10,6 @@ pub mod Completing
 pub mod Splitting
 pub mod Accepting
 pub mod PlaceLaws
+pub mod TypeLines
 pub mod Sizes
 pub mod Examples

@@ -124,7 +124,7 @@ begins-passes lay ls b =
 
 -- ---- the theorem
 
-first-no-feeds : (ls ms : List (List ℕ)) → NoFeeds (ls ++ ms) → NoFeeds ls
+pub first-no-feeds : (ls ms : List (List ℕ)) → NoFeeds (ls ++ ms) → NoFeeds ls
 first-no-feeds [] ms h = tt
 first-no-feeds (l ∷ ls) ms h = (h .0, first-no-feeds ls ms (h .1))
 

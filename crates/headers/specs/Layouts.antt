@@ -34,9 +34,13 @@ sameHeader Count (Names q) = false
 sameHeader Count TypeWord = false
 sameHeader Count Count = true
 
--- a recording: `.type fr` may be left out, inputs may be `-`, outputs are `0` or `1`, any number of them `1`
+-- a recording: `.type fr` is required, inputs may be `-`, outputs are `0` or `1`, any number of them `1`
 abbrev pub recording : Layout
-recording = record { kind = Recording; typed = false; dashes = true; unread = false; single = false }
+recording = record { kind = Recording; typed = true; dashes = true; unread = false; single = false }
+
+-- the same layout, the type line being required or not
+abbrev pub requiring : Bool → Layout → Layout
+requiring b lay = record { kind = lay .kind; typed = b; dashes = lay .dashes; unread = lay .unread; single = lay .single }
 
 -- a header that must stand before the first row and the end mark: `.i` and `.o` always, a name line where the other one stands,
 -- `.type` where the layout requires it, `.p` never

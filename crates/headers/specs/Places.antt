@@ -10,8 +10,9 @@ use Rattle.lines.specs.Lines.{lineOf, viewOf}
 use Rattle.lines.specs.declared.View.{View}
 use Rattle.lines.specs.declared.View.the-variants.{Cells, EndMark, Aside}
 use Rattle.lines.specs.declared.Line.the-variants.{Rows}
-use Rattle.headers.specs.Accepted.{rowsIn, Accepted}
+use Rattle.headers.specs.Accepted.{isRow, times, rowsIn, Accepted}
 use Rattle.headers.specs.declared.Layout.{Layout}
+use Rattle.headers.specs.declared.Header.the-variants.{TypeWord}
 
 -- a line `.p k`
 abbrev pub Counts : List ℕ → Type 0
@@ -40,6 +41,10 @@ isEnd (Cells m) = false
 isEnd EndMark = true
 isEnd Aside = false
 
+-- a line is a row or the end mark: with it the headers are over
+abbrev pub endsHeaders : View → Bool
+endsHeaders v = isRow v || isEnd v
+
 -- the end mark stands among lines
 unfoldable pub endIn : List (List ℕ) → Bool
 endIn [] = false
@@ -54,6 +59,17 @@ pub record FaultyLine (lay : Layout) (t : List ℕ) (k : ℕ) : Type 0 where
   pub number : k ≡ length before + 1
   pub begins : Begins lay before
   pub begins-no-more : Begins lay (before ++ line ∷ []) → ⊥
+
+-- line number k is a row or the end mark, the lines before it begin an accepted text, and no type line is among them (02, Ask 2)
+pub record Untyped (lay : Layout) (t : List ℕ) (k : ℕ) : Type 0 where
+  pub before : List (List ℕ)
+  pub line : List ℕ
+  pub after : List (List ℕ)
+  pub lines : linesOf t ≡ before ++ line ∷ after
+  pub number : k ≡ length before + 1
+  pub begins : Begins lay before
+  pub none : times TypeWord before ≡ 0
+  pub ends : endsHeaders (viewOf (lineOf line)) ≡ true
 
 -- every line passes but the end mark is missing: k is the number after the last line
 pub record EndMissing (lay : Layout) (t : List ℕ) (k : ℕ) : Type 0 where

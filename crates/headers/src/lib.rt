@@ -63,7 +63,7 @@ pub fn recording_layout() -> Layout
 {
     Layout {
         kind: Kind::Recording,
-        typed: false,
+        typed: true,
         dashes: true,
         unread: false,
         single: false,

@@ -50,6 +50,10 @@ ilbABC = 46 ∷ 105 ∷ 108 ∷ 98 ∷ 32 ∷ 65 ∷ 32 ∷ 66 ∷ 32 ∷ 67 ∷
 abbrev obABC : List ℕ
 obABC = 46 ∷ 111 ∷ 98 ∷ 32 ∷ 65 ∷ 32 ∷ 66 ∷ 32 ∷ 67 ∷ 10 ∷ []
 
+-- `.type fr`
+abbrev fr : List ℕ
+fr = 46 ∷ 116 ∷ 121 ∷ 112 ∷ 101 ∷ 32 ∷ 102 ∷ 114 ∷ 10 ∷ []
+
 -- `10 01`
 abbrev row : List ℕ
 row = 49 ∷ 48 ∷ 32 ∷ 48 ∷ 49 ∷ 10 ∷ []
@@ -62,19 +66,23 @@ end = 46 ∷ 101 ∷ 10 ∷ []
 
 -- a panel's recording of two relays, `K1` and `lamp`
 abbrev named2 : List ℕ
-named2 = i2 ++ o2 ++ ilbKL ++ obKL ++ row ++ end
+named2 = i2 ++ o2 ++ ilbKL ++ obKL ++ fr ++ row ++ end
 
 -- a maker's recording of three relays, `A`, `B` and `C`
 abbrev named3 : List ℕ
-named3 = ilbABC ++ i3 ++ o3 ++ obABC ++ end
+named3 = ilbABC ++ i3 ++ o3 ++ obABC ++ fr ++ end
 
 -- a recording without names
 abbrev plain : List ℕ
-plain = i2 ++ o2 ++ row ++ end
+plain = i2 ++ o2 ++ fr ++ row ++ end
 
 -- no recording: the end mark is missing
 abbrev bad : List ℕ
-bad = i2 ++ o2 ++ ilbKL ++ obKL ++ row
+bad = i2 ++ o2 ++ ilbKL ++ obKL ++ fr ++ row
+
+-- nor this: it has no type line
+abbrev untyped : List ℕ
+untyped = i2 ++ o2 ++ ilbKL ++ obKL ++ row ++ end
 
 -- ---- where a name stands
 
@@ -99,7 +107,7 @@ abbrev makers : ℕ → ℕ → Spot
 makers a k = record { maker = true; start = a; length = k }
 
 -- the panel's own names, whatever the maker's text is; no name beyond them, though the maker's text has one there; the maker's where the panel's
--- has none, and none beyond; none where both have none, where the maker's is bad, and where the panel's is
+-- has none, and none beyond; none where both have none, where the maker's is bad, and where the panel's is, for want of a type line too
 abbrev looks : List Look
 looks =
     look named2 named3 0 (own 15 2)
@@ -111,11 +119,13 @@ looks =
     ∷ look plain plain 0 noName
     ∷ look plain bad 0 noName
     ∷ look bad named3 0 noName
+    ∷ look plain untyped 0 noName
+    ∷ look untyped named3 0 noName
     ∷ []
 
 looked : Looked looks
 unfolding markOf run same body linesOf fieldsFrom fieldsIn cubeOf digits numberOf otherKey keyOf typedOf rowLine classOf ofFields lineOf nameByte allName nameOk holds goodNames namesCount sameFields namesIn startAt endAt spanAt fieldAt nameSpan lacks lacksNone readyOf rowFits openOf fitsOf headerAllowed endAllowed rowAllowed named allowedBy allowedAt nextAt finishOf judgeLines judgeOf homeFrom homeOf namingOf sourceOf spotOf
-looked = (refl, (refl, (refl, (refl, (refl, (refl, (refl, (refl, (refl, tt)))))))))
+looked = (refl, (refl, (refl, (refl, (refl, (refl, (refl, (refl, (refl, (refl, (refl, tt)))))))))))
 
 -- `lamp`
 lamp-looked : nameOf named2 bad 1 ≡ 108 ∷ 97 ∷ 109 ∷ 112 ∷ []

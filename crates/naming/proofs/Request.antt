@@ -1,4 +1,4 @@
--- The lookup in the words of 02, over accepted texts: the panel's own names, else the maker's; none beyond n, of two texts without names, and where a text consulted is bad.
+-- The lookup in the words of 02, over accepted texts: the panel's own names, else the maker's; none beyond n, of two texts without names, and where a text consulted is bad, as one without a type line is.
 use Prim.Native.Nat.{ℕ, _≤_}
 use mathlib.Core.Path.{_≡_, refl, sym, _∙_, ap}
 use mathlib.Core.List.{List, [], _∷_, _++_, List·Memᴰ as Mem, List·Memᴰ·head as here, List·Memᴰ·tail as there}
@@ -18,7 +18,7 @@ use Rattle.headers.specs.Layouts.{recording}
 use Rattle.headers.specs.Verdicts.{judgeOf}
 use Rattle.headers.specs.Accepted.{isHeader, one, times, RowLine, EmptyLine, All, Accepted}
 use Rattle.headers.specs.declared.Header.{Header}
-use Rattle.headers.specs.declared.Header.the-variants.{Names}
+use Rattle.headers.specs.declared.Header.the-variants.{Names, TypeWord}
 use Rattle.headers.specs.declared.Layout.{Layout}
 use Rattle.headers.specs.declared.Verdict.{Verdict}
 use Rattle.headers.specs.declared.Verdict.the-variants.{Good, Bad}
@@ -140,6 +140,12 @@ bad-panel panel maker b v = none-if-panel-refused panel maker v (naming-refused 
 
 pub bad-maker : (panel maker : List ℕ) (m : ℕ) (x : Accepted recording m panel) → WithoutNames m panel x → BadText maker → (v : ℕ) → spotOf panel maker v ≡ noName
 bad-maker panel maker m x w b v = none-if-maker-refused panel maker v (naming-without m panel x w) (naming-refused maker b)
+
+-- a text without a type line is bad (02, Ask 2)
+pub typeless-bad : (t : List ℕ) → times TypeWord (linesOf t) ≡ 0 → BadText t
+typeless-bad t e n x =
+    let parts = ap (times TypeWord) (x .lines) ∙ times-append TypeWord (x .top) (x .middle ++ x .mark ∷ x .rest) in
+    absurd (omega (arith, e, parts, x .typed refl))
 
 -- ---- the names of a sheet
 

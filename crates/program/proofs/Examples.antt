@@ -41,9 +41,9 @@ pub panel-printed : printed panel 8 8 7 50 ≡ sheet
 unfolding filled on relays allOn allOff transitionWord markOf run same linesOf body cubeOf digits numberOf fieldsFrom fieldsIn otherKey keyOf typedOf rowLine classOf ofFields lineOf lacks lacksNone readyOf rowFits openOf fitsOf headerAllowed endAllowed rowAllowed named allowedBy allowedAt nextAt finishOf judgeLines judgeOf matchesOf wordsBelow linesWords textWords readAnswer readList learnRun learnStart learnWords learnStep taken learnEnd reproduced has missing panelSize bitsWhere ruleWord head mustOn mustOff covers contains narrows rules state next observed validTransition rests spared differ told against withWord least sheetWhere permits freshSheet takeSheet struckCount addedCount pullsIn applySheet decimalFrom decimal bodyByte headByte columns rowText rowsText headerText nameText nameLines typeText countText tableText sheetText nameByte allName nameOk holds goodNames namesCount sameFields namesIn spaced startAt endAt spanAt fieldAt nameSpan homeFrom homeOf namingOf sourceOf spotOf nameOf columnNames allNamed namesFor refusalLine ifRoom readingCode readingPlace learnedRun writtenRun runText runPrinted printed
 panel-printed = refl
 
--- a recording with names: .i 1⏎.ob A⏎.o 1⏎.ilb A⏎0 0⏎.e⏎
+-- a recording with names: .i 1⏎.ob A⏎.o 1⏎.ilb A⏎.type fr⏎0 0⏎.e⏎
 abbrev named-panel : List ℕ
-named-panel = 46 ∷ 105 ∷ 32 ∷ 49 ∷ 10 ∷ 46 ∷ 111 ∷ 98 ∷ 32 ∷ 65 ∷ 10 ∷ 46 ∷ 111 ∷ 32 ∷ 49 ∷ 10 ∷ 46 ∷ 105 ∷ 108 ∷ 98 ∷ 32 ∷ 65 ∷ 10 ∷ 48 ∷ 32 ∷ 48 ∷ 10 ∷ 46 ∷ 101 ∷ 10 ∷ []
+named-panel = 46 ∷ 105 ∷ 32 ∷ 49 ∷ 10 ∷ 46 ∷ 111 ∷ 98 ∷ 32 ∷ 65 ∷ 10 ∷ 46 ∷ 111 ∷ 32 ∷ 49 ∷ 10 ∷ 46 ∷ 105 ∷ 108 ∷ 98 ∷ 32 ∷ 65 ∷ 10 ∷ 46 ∷ 116 ∷ 121 ∷ 112 ∷ 101 ∷ 32 ∷ 102 ∷ 114 ∷ 10 ∷ 48 ∷ 32 ∷ 48 ∷ 10 ∷ 46 ∷ 101 ∷ 10 ∷ []
 
 -- its sheet has them behind the sizes: .i 1⏎.o 1⏎.ilb A⏎.ob A⏎.type f⏎.p 1⏎1 1⏎.e⏎
 abbrev named-sheet : List ℕ
@@ -57,3 +57,11 @@ named-printed = refl
 pub panel-refused : (printed panel 7 8 7 50 ≡ 114 ∷ 101 ∷ 102 ∷ 117 ∷ 115 ∷ 101 ∷ 100 ∷ 32 ∷ 56 ∷ 32 ∷ 97 ∷ 116 ∷ 32 ∷ 48 ∷ 10 ∷ []) × (printed panel 8 8 7 49 ≡ 114 ∷ 101 ∷ 102 ∷ 117 ∷ 115 ∷ 101 ∷ 100 ∷ 32 ∷ 49 ∷ 50 ∷ 32 ∷ 97 ∷ 116 ∷ 32 ∷ 48 ∷ 10 ∷ []) × (printed panel 8 8 7 15 ≡ [])
 unfolding filled on relays allOn allOff transitionWord markOf run same linesOf body cubeOf digits numberOf fieldsFrom fieldsIn otherKey keyOf typedOf rowLine classOf ofFields lineOf lacks lacksNone readyOf rowFits openOf fitsOf headerAllowed endAllowed rowAllowed named allowedBy allowedAt nextAt finishOf judgeLines judgeOf matchesOf wordsBelow linesWords textWords readAnswer readList learnRun learnStart learnWords learnStep taken learnEnd reproduced has missing panelSize bitsWhere ruleWord head mustOn mustOff covers contains narrows rules state next observed validTransition rests spared differ told against withWord least sheetWhere permits freshSheet takeSheet struckCount addedCount pullsIn applySheet decimalFrom decimal bodyByte headByte columns rowText rowsText headerText nameText nameLines typeText countText tableText sheetText nameByte allName nameOk holds goodNames namesCount sameFields namesIn spaced startAt endAt spanAt fieldAt nameSpan homeFrom homeOf namingOf sourceOf spotOf nameOf columnNames allNamed namesFor refusalLine ifRoom readingCode readingPlace learnedRun writtenRun runText runPrinted printed
 panel-refused = (refl, refl, refl)
+
+-- with no type line, `refused 11 at 3`: .i 1⏎.o 1⏎0 0⏎.e⏎
+abbrev untyped-panel : List ℕ
+untyped-panel = 46 ∷ 105 ∷ 32 ∷ 49 ∷ 10 ∷ 46 ∷ 111 ∷ 32 ∷ 49 ∷ 10 ∷ 48 ∷ 32 ∷ 48 ∷ 10 ∷ 46 ∷ 101 ∷ 10 ∷ []
+
+pub untyped-refused : printed untyped-panel 1 1 1 43 ≡ 114 ∷ 101 ∷ 102 ∷ 117 ∷ 115 ∷ 101 ∷ 100 ∷ 32 ∷ 49 ∷ 49 ∷ 32 ∷ 97 ∷ 116 ∷ 32 ∷ 51 ∷ 10 ∷ []
+unfolding filled on relays allOn allOff transitionWord markOf run same linesOf body cubeOf digits numberOf fieldsFrom fieldsIn otherKey keyOf typedOf rowLine classOf ofFields lineOf lacks lacksNone readyOf rowFits openOf fitsOf headerAllowed endAllowed rowAllowed named allowedBy allowedAt nextAt finishOf judgeLines judgeOf matchesOf wordsBelow linesWords textWords readAnswer readList learnRun learnStart learnWords learnStep taken learnEnd reproduced has missing panelSize bitsWhere ruleWord head mustOn mustOff covers contains narrows rules state next observed validTransition rests spared differ told against withWord least sheetWhere permits freshSheet takeSheet struckCount addedCount pullsIn applySheet decimalFrom decimal bodyByte headByte columns rowText rowsText headerText nameText nameLines typeText countText tableText sheetText nameByte allName nameOk holds goodNames namesCount sameFields namesIn spaced startAt endAt spanAt fieldAt nameSpan homeFrom homeOf namingOf sourceOf spotOf nameOf columnNames allNamed namesFor refusalLine ifRoom readingCode readingPlace learnedRun writtenRun runText runPrinted printed
+untyped-refused = refl

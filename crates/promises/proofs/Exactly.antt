@@ -1,6 +1,6 @@
 -- The definitions leave no choice: a refusal has one code and one place, and a sheet is printed exactly where nothing is refused.
 use mathlib.Core.Path.{_≡_, refl, sym, ap, _∙_, subst}
-use mathlib.Core.Logic.{_↔_}
+use mathlib.Core.Logic.{_↔_, inl}
 use mathlib.Core.List.{List, _++_}
 use Prim.Native.Nat.{ℕ, _≤_, _<_}
 use native.Mathlib.Omega.{arith}
@@ -10,8 +10,9 @@ use Rattle.panel.specs.Transitions.{validTransition}
 use Rattle.prime.specs.Sheets.{sheetOf}
 use Rattle.headers.specs.Layouts.{recording}
 use Rattle.headers.specs.Accepted.{Accepted}
-use Rattle.headers.specs.Places.{Place}
+use Rattle.headers.specs.Places.{Place, Untyped}
 use Rattle.headers.proofs.PlaceLaws.{one-size, one-place, accepted-no-place}
+use Rattle.headers.proofs.TypeLines.{untyped-faulty}
 use Rattle.recording.specs.Rows.{textWords}
 use Rattle.recording.proofs.WordLaws.{read-size, read-valid}
 use Rattle.program.specs.Program.{refusalLine, Runs}
@@ -125,3 +126,7 @@ module _ {t list book sheet out l b s out′ : List ℕ} {r : ℕ} (rooms : Room
       go f (a-refusal q) =
           let k = line-unique (q .code) (q .place) c p (sym (q .prints .text) ∙ f .text) in
           subst (λ (z : ℕ). Refused t c z) (k .1) (subst (λ (z : ℕ). Refused t z (q .place)) (k .0) (q .refused))
+
+  -- a row or the end mark with no type line before it is answered with 11 and the number of its line (02, Ask 2)
+  pub untyped-printed : (k : ℕ) → length t ≤ 24576 → Untyped recording t k → Prints out out′ r (refusalLine 11 k)
+  untyped-printed k s u = refusal-printed 11 k (faulty k s (inl (untyped-faulty recording refl t k u)))

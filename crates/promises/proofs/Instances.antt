@@ -42,26 +42,31 @@ use Rattle.promises.proofs.OneText.{one-text}
 -- ---- texts
 
 -- the rows "1 0" and "0 0" of a relay K:
---   .i 1⏎.o 1⏎.ilb K⏎.ob K⏎1 0⏎0 0⏎.e⏎
+--   .i 1⏎.o 1⏎.ilb K⏎.ob K⏎.type fr⏎1 0⏎0 0⏎.e⏎
 abbrev two-rows : List ℕ
-two-rows = 46 ∷ 105 ∷ 32 ∷ 49 ∷ 10 ∷ 46 ∷ 111 ∷ 32 ∷ 49 ∷ 10 ∷ 46 ∷ 105 ∷ 108 ∷ 98 ∷ 32 ∷ 75 ∷ 10 ∷ 46 ∷ 111 ∷ 98 ∷ 32 ∷ 75 ∷ 10 ∷ 49 ∷ 32 ∷ 48 ∷ 10 ∷ 48 ∷ 32 ∷ 48 ∷ 10 ∷ 46 ∷ 101 ∷ 10 ∷ []
+two-rows = 46 ∷ 105 ∷ 32 ∷ 49 ∷ 10 ∷ 46 ∷ 111 ∷ 32 ∷ 49 ∷ 10 ∷ 46 ∷ 105 ∷ 108 ∷ 98 ∷ 32 ∷ 75 ∷ 10 ∷ 46 ∷ 111 ∷ 98 ∷ 32 ∷ 75 ∷ 10 ∷ 46 ∷ 116 ∷ 121 ∷ 112 ∷ 101 ∷ 32 ∷ 102 ∷ 114 ∷ 10 ∷ 49 ∷ 32 ∷ 48 ∷ 10 ∷ 48 ∷ 32 ∷ 48 ∷ 10 ∷ 46 ∷ 101 ∷ 10 ∷ []
 
 -- the same rows and names, with a dash, comments and a repeat, and laid out in another way:
---   .ob K⏎.o 1⏎.i 1⏎.ilb K # both⏎- 0 # both⏎0 0⏎.end
+--   .ob K⏎.type fr⏎.o 1⏎.i 1⏎.ilb K # both⏎- 0 # both⏎0 0⏎.end
 abbrev one-dash : List ℕ
-one-dash = 46 ∷ 111 ∷ 98 ∷ 32 ∷ 75 ∷ 10 ∷ 46 ∷ 111 ∷ 32 ∷ 49 ∷ 10 ∷ 46 ∷ 105 ∷ 32 ∷ 49 ∷ 10 ∷ 46 ∷ 105 ∷ 108 ∷ 98 ∷ 32 ∷ 75 ∷ 32 ∷ 35 ∷ 32 ∷ 98 ∷ 111 ∷ 116 ∷ 104 ∷ 10 ∷ 45 ∷ 32 ∷ 48 ∷ 32 ∷ 35 ∷ 32 ∷ 98 ∷ 111 ∷ 116 ∷ 104 ∷ 10 ∷ 48 ∷ 32 ∷ 48 ∷ 10 ∷ 46 ∷ 101 ∷ 110 ∷ 100 ∷ []
+one-dash = 46 ∷ 111 ∷ 98 ∷ 32 ∷ 75 ∷ 10 ∷ 46 ∷ 116 ∷ 121 ∷ 112 ∷ 101 ∷ 32 ∷ 102 ∷ 114 ∷ 10 ∷ 46 ∷ 111 ∷ 32 ∷ 49 ∷ 10 ∷ 46 ∷ 105 ∷ 32 ∷ 49 ∷ 10 ∷ 46 ∷ 105 ∷ 108 ∷ 98 ∷ 32 ∷ 75 ∷ 32 ∷ 35 ∷ 32 ∷ 98 ∷ 111 ∷ 116 ∷ 104 ∷ 10 ∷ 45 ∷ 32 ∷ 48 ∷ 32 ∷ 35 ∷ 32 ∷ 98 ∷ 111 ∷ 116 ∷ 104 ∷ 10 ∷ 48 ∷ 32 ∷ 48 ∷ 10 ∷ 46 ∷ 101 ∷ 110 ∷ 100 ∷ []
 
 -- K4 as a recording: "0 0" and then "0 1":
---   .i 1⏎.o 1⏎0 0⏎0 1⏎.e⏎
+--   .i 1⏎.o 1⏎.type fr⏎0 0⏎0 1⏎.e⏎
 abbrev two-ways : List ℕ
-two-ways = 46 ∷ 105 ∷ 32 ∷ 49 ∷ 10 ∷ 46 ∷ 111 ∷ 32 ∷ 49 ∷ 10 ∷ 48 ∷ 32 ∷ 48 ∷ 10 ∷ 48 ∷ 32 ∷ 49 ∷ 10 ∷ 46 ∷ 101 ∷ 10 ∷ []
+two-ways = 46 ∷ 105 ∷ 32 ∷ 49 ∷ 10 ∷ 46 ∷ 111 ∷ 32 ∷ 49 ∷ 10 ∷ 46 ∷ 116 ∷ 121 ∷ 112 ∷ 101 ∷ 32 ∷ 102 ∷ 114 ∷ 10 ∷ 48 ∷ 32 ∷ 48 ∷ 10 ∷ 48 ∷ 32 ∷ 49 ∷ 10 ∷ 46 ∷ 101 ∷ 10 ∷ []
 
 -- 1,025 words:
---   .i 10⏎.o 10⏎---------- 0000000000⏎0000000000 0000000000⏎.e⏎
+--   .i 10⏎.o 10⏎.type fr⏎---------- 0000000000⏎0000000000 0000000000⏎.e⏎
 abbrev too-many-rows : List ℕ
-too-many-rows = 46 ∷ 105 ∷ 32 ∷ 49 ∷ 48 ∷ 10 ∷ 46 ∷ 111 ∷ 32 ∷ 49 ∷ 48 ∷ 10 ∷ 45 ∷ 45 ∷ 45 ∷ 45 ∷ 45 ∷ 45 ∷ 45 ∷ 45 ∷ 45 ∷ 45 ∷ 32 ∷ 48 ∷ 48 ∷ 48 ∷ 48 ∷ 48 ∷ 48 ∷ 48 ∷ 48 ∷ 48 ∷ 48 ∷ 10 ∷ 48 ∷ 48 ∷ 48 ∷ 48 ∷ 48 ∷ 48 ∷ 48 ∷ 48 ∷ 48 ∷ 48 ∷ 32 ∷ 48 ∷ 48 ∷ 48 ∷ 48 ∷ 48 ∷ 48 ∷ 48 ∷ 48 ∷ 48 ∷ 48 ∷ 10 ∷ 46 ∷ 101 ∷ 10 ∷ []
+too-many-rows = 46 ∷ 105 ∷ 32 ∷ 49 ∷ 48 ∷ 10 ∷ 46 ∷ 111 ∷ 32 ∷ 49 ∷ 48 ∷ 10 ∷ 46 ∷ 116 ∷ 121 ∷ 112 ∷ 101 ∷ 32 ∷ 102 ∷ 114 ∷ 10 ∷ 45 ∷ 45 ∷ 45 ∷ 45 ∷ 45 ∷ 45 ∷ 45 ∷ 45 ∷ 45 ∷ 45 ∷ 32 ∷ 48 ∷ 48 ∷ 48 ∷ 48 ∷ 48 ∷ 48 ∷ 48 ∷ 48 ∷ 48 ∷ 48 ∷ 10 ∷ 48 ∷ 48 ∷ 48 ∷ 48 ∷ 48 ∷ 48 ∷ 48 ∷ 48 ∷ 48 ∷ 48 ∷ 32 ∷ 48 ∷ 48 ∷ 48 ∷ 48 ∷ 48 ∷ 48 ∷ 48 ∷ 48 ∷ 48 ∷ 48 ∷ 10 ∷ 46 ∷ 101 ∷ 10 ∷ []
 
--- their words, and their layout; the empty text has no good one
+-- no type line:
+--   .i 1⏎.o 1⏎1 0⏎.e⏎
+abbrev typeless : List ℕ
+typeless = 46 ∷ 105 ∷ 32 ∷ 49 ∷ 10 ∷ 46 ∷ 111 ∷ 32 ∷ 49 ∷ 10 ∷ 49 ∷ 32 ∷ 48 ∷ 10 ∷ 46 ∷ 101 ∷ 10 ∷ []
+
+-- their words, and their layout; the empty text has no good one, nor has a text without a type line
 record Texts : Type 0 where
   two-rows-words : textWords two-rows ≡ 1024 ∷ 0 ∷ []
   one-dash-words : textWords one-dash ≡ 0 ∷ 1024 ∷ 0 ∷ []
@@ -72,6 +77,7 @@ record Texts : Type 0 where
   two-ways-good : Accepted recording 1 two-ways
   many-good : Accepted recording 10 too-many-rows
   empty-bad : Place recording [] 1
+  typeless-bad : Place recording typeless 3
 
 texts : Texts
 unfolding on relays allOn allOff transitionWord markOf run same linesOf body cubeOf digits numberOf fieldsFrom fieldsIn otherKey keyOf typedOf rowLine classOf ofFields lineOf nameByte allName nameOk holds goodNames namesCount sameFields namesIn lacks lacksNone readyOf rowFits openOf fitsOf headerAllowed endAllowed rowAllowed named allowedBy allowedAt nextAt finishOf judgeLines judgeOf matchesOf wordsBelow linesWords textWords
@@ -85,6 +91,7 @@ texts = record {
   two-ways-good = good-iff-text recording two-ways 1 .0 refl;
   many-good = good-iff-text recording too-many-rows 10 .0 refl;
   empty-bad = bad-iff-place recording [] 1 .0 refl;
+  typeless-bad = bad-iff-place recording typeless 3 .0 refl;
 }
 
 -- ---- the recordings
@@ -215,6 +222,10 @@ long-refused = too-long (omega (arith, length-replicate {A = ℕ} 24577 0))
 -- 11: the empty text
 pub empty-refused : Refused [] 11 1
 empty-refused = faulty 1 (omega arith) (texts .empty-bad)
+
+-- 11: its first row, with no type line before it
+pub typeless-refused : Refused typeless 11 3
+typeless-refused = faulty 3 (omega arith) (texts .typeless-bad)
 
 -- 8: one word more than the list has
 pub many-refused : Refused too-many-rows 8 0

@@ -1,4 +1,4 @@
--- From text to text: what the program prints for an input, in the words of document 01. It is the sheet of the recording, or the line of a refusal.
+-- From text to text: what the program prints for an input, in the words of documents 01 and 02. It is the sheet of the recording, or the line of a refusal.
 use mathlib.Core.Path.{_≡_}
 use mathlib.Core.Bool.{true}
 use mathlib.Core.List.{List, [], List·Memᴰ as Mem}
@@ -17,7 +17,7 @@ use Rattle.handover.specs.Learning.{Learnable, LearnRefused}
 
 -- ---- the recording
 
--- the text is not too long, it is a recording for n relays, and its rows stand for the words ts, which fit into the list
+-- the text is not too long, it is a recording for n relays, the type line required, and its rows stand for the words ts, which fit into the list
 pub record Recorded (t : List ℕ) (n : ℕ) (ts : List ℕ) : Type 0 where
   pub short : length t ≤ 24576
   pub good : Accepted recording n t

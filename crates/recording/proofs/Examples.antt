@@ -38,19 +38,19 @@ abbrev panel : Example
 panel = record { text = 46 ∷ 105 ∷ 32 ∷ 51 ∷ 10 ∷ 46 ∷ 111 ∷ 32 ∷ 51 ∷ 10 ∷ 46 ∷ 116 ∷ 121 ∷ 112 ∷ 101 ∷ 32 ∷ 102 ∷ 114 ∷ 10 ∷ 49 ∷ 49 ∷ 49 ∷ 32 ∷ 49 ∷ 49 ∷ 48 ∷ 10 ∷ 49 ∷ 49 ∷ 48 ∷ 32 ∷ 49 ∷ 48 ∷ 48 ∷ 10 ∷ 49 ∷ 48 ∷ 48 ∷ 32 ∷ 48 ∷ 48 ∷ 48 ∷ 10 ∷ 48 ∷ 48 ∷ 48 ∷ 32 ∷ 48 ∷ 48 ∷ 49 ∷ 10 ∷ 48 ∷ 48 ∷ 49 ∷ 32 ∷ 48 ∷ 48 ∷ 49 ∷ 10 ∷ 48 ∷ 49 ∷ 49 ∷ 32 ∷ 49 ∷ 48 ∷ 49 ∷ 10 ∷ 49 ∷ 48 ∷ 49 ∷ 32 ∷ 48 ∷ 49 ∷ 48 ∷ 10 ∷ 48 ∷ 49 ∷ 48 ∷ 32 ∷ 49 ∷ 48 ∷ 49 ∷ 10 ∷ 46 ∷ 101 ∷ 10 ∷ []; room = 8; answer = done 3 (7171 ∷ 3073 ∷ 1024 ∷ 4 ∷ 4100 ∷ 6149 ∷ 5122 ∷ 2053 ∷ []); words = 7171 ∷ 3073 ∷ 1024 ∷ 4 ∷ 4100 ∷ 6149 ∷ 5122 ∷ 2053 ∷ [] }
 
 -- a row with dashes stands for all matching states in increasing number, the leftmost column being relay 0:
---   .o 2 # lamps⏎⇥.i 2⏎.p 1⏎-1 10⏎.end
+--   .o 2 # lamps⏎⇥.i 2⏎.type fr⏎.p 1⏎-1 10⏎.end
 abbrev dashes : Example
-dashes = record { text = 46 ∷ 111 ∷ 32 ∷ 50 ∷ 32 ∷ 35 ∷ 32 ∷ 108 ∷ 97 ∷ 109 ∷ 112 ∷ 115 ∷ 10 ∷ 9 ∷ 46 ∷ 105 ∷ 32 ∷ 50 ∷ 10 ∷ 46 ∷ 112 ∷ 32 ∷ 49 ∷ 10 ∷ 45 ∷ 49 ∷ 32 ∷ 49 ∷ 48 ∷ 10 ∷ 46 ∷ 101 ∷ 110 ∷ 100 ∷ []; room = 3; answer = done 2 (2049 ∷ 3073 ∷ []); words = 2049 ∷ 3073 ∷ [] }
+dashes = record { text = 46 ∷ 111 ∷ 32 ∷ 50 ∷ 32 ∷ 35 ∷ 32 ∷ 108 ∷ 97 ∷ 109 ∷ 112 ∷ 115 ∷ 10 ∷ 9 ∷ 46 ∷ 105 ∷ 32 ∷ 50 ∷ 10 ∷ 46 ∷ 116 ∷ 121 ∷ 112 ∷ 101 ∷ 32 ∷ 102 ∷ 114 ∷ 10 ∷ 46 ∷ 112 ∷ 32 ∷ 49 ∷ 10 ∷ 45 ∷ 49 ∷ 32 ∷ 49 ∷ 48 ∷ 10 ∷ 46 ∷ 101 ∷ 110 ∷ 100 ∷ []; room = 3; answer = done 2 (2049 ∷ 3073 ∷ []); words = 2049 ∷ 3073 ∷ [] }
 
 -- a text without rows is accepted:
---   .i 1⏎.o 1⏎.p 0⏎.e⏎
+--   .i 1⏎.o 1⏎.type fr⏎.p 0⏎.e⏎
 abbrev no-rows : Example
-no-rows = record { text = 46 ∷ 105 ∷ 32 ∷ 49 ∷ 10 ∷ 46 ∷ 111 ∷ 32 ∷ 49 ∷ 10 ∷ 46 ∷ 112 ∷ 32 ∷ 48 ∷ 10 ∷ 46 ∷ 101 ∷ 10 ∷ []; room = 1; answer = done 1 ([]); words = [] }
+no-rows = record { text = 46 ∷ 105 ∷ 32 ∷ 49 ∷ 10 ∷ 46 ∷ 111 ∷ 32 ∷ 49 ∷ 10 ∷ 46 ∷ 116 ∷ 121 ∷ 112 ∷ 101 ∷ 32 ∷ 102 ∷ 114 ∷ 10 ∷ 46 ∷ 112 ∷ 32 ∷ 48 ∷ 10 ∷ 46 ∷ 101 ∷ 10 ∷ []; room = 1; answer = done 1 ([]); words = [] }
 
 -- one word more than the room:
---   .i 1⏎.o 1⏎- 1⏎.e⏎
+--   .i 1⏎.o 1⏎.type fr⏎- 1⏎.e⏎
 abbrev full : Example
-full = record { text = 46 ∷ 105 ∷ 32 ∷ 49 ∷ 10 ∷ 46 ∷ 111 ∷ 32 ∷ 49 ∷ 10 ∷ 45 ∷ 32 ∷ 49 ∷ 10 ∷ 46 ∷ 101 ∷ 10 ∷ []; room = 1; answer = refusal 8 0; words = [] }
+full = record { text = 46 ∷ 105 ∷ 32 ∷ 49 ∷ 10 ∷ 46 ∷ 111 ∷ 32 ∷ 49 ∷ 10 ∷ 46 ∷ 116 ∷ 121 ∷ 112 ∷ 101 ∷ 32 ∷ 102 ∷ 114 ∷ 10 ∷ 45 ∷ 32 ∷ 49 ∷ 10 ∷ 46 ∷ 101 ∷ 10 ∷ []; room = 1; answer = refusal 8 0; words = [] }
 
 -- an empty text has no lines:
 --
@@ -58,9 +58,9 @@ abbrev empty : Example
 empty = record { text = []; room = 1; answer = refusal 11 1; words = [] }
 
 -- the end mark is missing:
---   .i 1⏎.o 1⏎.p 3⏎
+--   .i 1⏎.o 1⏎.type fr⏎.p 3⏎
 abbrev endless : Example
-endless = record { text = 46 ∷ 105 ∷ 32 ∷ 49 ∷ 10 ∷ 46 ∷ 111 ∷ 32 ∷ 49 ∷ 10 ∷ 46 ∷ 112 ∷ 32 ∷ 51 ∷ 10 ∷ []; room = 0; answer = refusal 11 4; words = [] }
+endless = record { text = 46 ∷ 105 ∷ 32 ∷ 49 ∷ 10 ∷ 46 ∷ 111 ∷ 32 ∷ 49 ∷ 10 ∷ 46 ∷ 116 ∷ 121 ∷ 112 ∷ 101 ∷ 32 ∷ 102 ∷ 114 ∷ 10 ∷ 46 ∷ 112 ∷ 32 ∷ 51 ∷ 10 ∷ []; room = 0; answer = refusal 11 5; words = [] }
 
 -- the end mark without the sizes is faulty itself:
 --   .e⏎
@@ -68,20 +68,30 @@ abbrev early-end : Example
 early-end = record { text = 46 ∷ 101 ∷ 10 ∷ []; room = 0; answer = refusal 11 1; words = [] }
 
 -- of unequal sizes the later:
---   .i 1⏎.o 2⏎.p 5⏎.e⏎
+--   .i 1⏎.o 2⏎.type fr⏎.p 5⏎.e⏎
 abbrev unequal : Example
-unequal = record { text = 46 ∷ 105 ∷ 32 ∷ 49 ∷ 10 ∷ 46 ∷ 111 ∷ 32 ∷ 50 ∷ 10 ∷ 46 ∷ 112 ∷ 32 ∷ 53 ∷ 10 ∷ 46 ∷ 101 ∷ 10 ∷ []; room = 0; answer = refusal 11 2; words = [] }
+unequal = record { text = 46 ∷ 105 ∷ 32 ∷ 49 ∷ 10 ∷ 46 ∷ 111 ∷ 32 ∷ 50 ∷ 10 ∷ 46 ∷ 116 ∷ 121 ∷ 112 ∷ 101 ∷ 32 ∷ 102 ∷ 114 ∷ 10 ∷ 46 ∷ 112 ∷ 32 ∷ 53 ∷ 10 ∷ 46 ∷ 101 ∷ 10 ∷ []; room = 0; answer = refusal 11 2; words = [] }
 
 -- the wrong number after `.p`, of any length, is refused at its own line, and only where nothing else is wrong:
---   .i 1⏎.p 18446744073709551617⏎.o 1⏎1 0⏎.e⏎
+--   .i 1⏎.p 18446744073709551617⏎.o 1⏎.type fr⏎1 0⏎.e⏎
 abbrev miscounted : Example
-miscounted = record { text = 46 ∷ 105 ∷ 32 ∷ 49 ∷ 10 ∷ 46 ∷ 112 ∷ 32 ∷ 49 ∷ 56 ∷ 52 ∷ 52 ∷ 54 ∷ 55 ∷ 52 ∷ 52 ∷ 48 ∷ 55 ∷ 51 ∷ 55 ∷ 48 ∷ 57 ∷ 53 ∷ 53 ∷ 49 ∷ 54 ∷ 49 ∷ 55 ∷ 10 ∷ 46 ∷ 111 ∷ 32 ∷ 49 ∷ 10 ∷ 49 ∷ 32 ∷ 48 ∷ 10 ∷ 46 ∷ 101 ∷ 10 ∷ []; room = 1; answer = refusal 11 2; words = [] }
+miscounted = record { text = 46 ∷ 105 ∷ 32 ∷ 49 ∷ 10 ∷ 46 ∷ 112 ∷ 32 ∷ 49 ∷ 56 ∷ 52 ∷ 52 ∷ 54 ∷ 55 ∷ 52 ∷ 52 ∷ 48 ∷ 55 ∷ 51 ∷ 55 ∷ 48 ∷ 57 ∷ 53 ∷ 53 ∷ 49 ∷ 54 ∷ 49 ∷ 55 ∷ 10 ∷ 46 ∷ 111 ∷ 32 ∷ 49 ∷ 10 ∷ 46 ∷ 116 ∷ 121 ∷ 112 ∷ 101 ∷ 32 ∷ 102 ∷ 114 ∷ 10 ∷ 49 ∷ 32 ∷ 48 ∷ 10 ∷ 46 ∷ 101 ∷ 10 ∷ []; room = 1; answer = refusal 11 2; words = [] }
 
 -- a number has no leading zeros:
 --   .i 01⏎
 abbrev leading-zero : Example
 leading-zero = record { text = 46 ∷ 105 ∷ 32 ∷ 48 ∷ 49 ∷ 10 ∷ []; room = 1; answer = refusal 11 1; words = [] }
 
-pub examples-hold : Holds (panel ∷ dashes ∷ no-rows ∷ full ∷ empty ∷ endless ∷ early-end ∷ unequal ∷ miscounted ∷ leading-zero ∷ [])
+-- with no type line before it the first row is faulty:
+--   .i 1⏎.o 1⏎1 0⏎.type fr⏎.e⏎
+abbrev untyped-row : Example
+untyped-row = record { text = 46 ∷ 105 ∷ 32 ∷ 49 ∷ 10 ∷ 46 ∷ 111 ∷ 32 ∷ 49 ∷ 10 ∷ 49 ∷ 32 ∷ 48 ∷ 10 ∷ 46 ∷ 116 ∷ 121 ∷ 112 ∷ 101 ∷ 32 ∷ 102 ∷ 114 ∷ 10 ∷ 46 ∷ 101 ∷ 10 ∷ []; room = 1; answer = refusal 11 3; words = [] }
+
+-- or the end mark, where no row stands:
+--   .i 1⏎.o 1⏎.p 0⏎.e⏎
+abbrev untyped-end : Example
+untyped-end = record { text = 46 ∷ 105 ∷ 32 ∷ 49 ∷ 10 ∷ 46 ∷ 111 ∷ 32 ∷ 49 ∷ 10 ∷ 46 ∷ 112 ∷ 32 ∷ 48 ∷ 10 ∷ 46 ∷ 101 ∷ 10 ∷ []; room = 1; answer = refusal 11 4; words = [] }
+
+pub examples-hold : Holds (panel ∷ dashes ∷ no-rows ∷ full ∷ empty ∷ endless ∷ early-end ∷ unequal ∷ miscounted ∷ leading-zero ∷ untyped-row ∷ untyped-end ∷ [])
 unfolding filled on relays allOn allOff transitionWord markOf run same linesOf body cubeOf digits numberOf fieldsFrom fieldsIn otherKey keyOf typedOf rowLine classOf ofFields lineOf lacks lacksNone readyOf rowFits openOf fitsOf headerAllowed endAllowed rowAllowed named allowedBy allowedAt nextAt finishOf judgeLines judgeOf matchesOf wordsBelow linesWords textWords readAnswer readList
-examples-hold = ((refl, refl), ((refl, refl), ((refl, refl), ((refl, refl), ((refl, refl), ((refl, refl), ((refl, refl), ((refl, refl), ((refl, refl), ((refl, refl), tt))))))))))
+examples-hold = ((refl, refl), ((refl, refl), ((refl, refl), ((refl, refl), ((refl, refl), ((refl, refl), ((refl, refl), ((refl, refl), ((refl, refl), ((refl, refl), ((refl, refl), ((refl, refl), tt))))))))))))

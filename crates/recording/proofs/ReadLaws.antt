@@ -2,21 +2,22 @@
 use Prim.Native.Nat.{ℕ, _-_, _≤_, _<_}
 use mathlib.Core.Path.{_≡_, refl, sym, _∙_, ap}
 use mathlib.Core.List.{List}
-use mathlib.Core.Logic.{_↔_}
+use mathlib.Core.Logic.{_↔_, _⊎_, inl, inr, ⊎-elim}
 use mathlib.Core.Bool.{Bool, true, false, cond}
 use native.Mathlib.Omega.{arith}
 use lib.Dec.{leb}
 use lib.ListN.{length, replicate, take}
 use borrow.Author.Tests.{le-leb, lt-leb}
 use Rattle.table.specs.Surgery.{clearedFrom, filled}
-use Rattle.headers.specs.Layouts.{recording}
+use Rattle.headers.specs.Layouts.{recording, requiring}
 use Rattle.headers.specs.Verdicts.{judgeOf}
-use Rattle.headers.specs.Places.{Place}
+use Rattle.headers.specs.Places.{Place, Untyped}
 use Rattle.headers.specs.declared.Verdict.{Verdict}
 use Rattle.headers.specs.declared.Verdict.the-variants.{Good, Bad}
 use Rattle.headers.proofs.PlaceLaws.{bad-iff-place}
+use Rattle.headers.proofs.TypeLines.{untyped-faulty, same-or-untyped}
 use Rattle.recording.specs.Rows.{textWords}
-use Rattle.recording.specs.Reading.{refusal, answerFor, readAnswer, readList, Reads}
+use Rattle.recording.specs.Reading.{refusal, answerFor, listFor, readAnswer, readList, Reads}
 use Rattle.recording.specs.declared.ReadAnswer.{ReadAnswer}
 
 -- what `read` answers in each of its three cases, over what its calls answer
@@ -63,3 +64,18 @@ module _ {t before after : List ℕ} {r : ReadAnswer} (h : Reads t before after 
     λ a. bad-iff-place recording t k .0 (bad-at (judgeOf recording t) refl (a .0) (a .1)),
     λ p. let a = answer-by (Bad k) (bad-iff-place recording t k .1 p) in (ap (λ (x : ReadAnswer). x .code) a, ap (λ (x : ReadAnswer). x .place) a),
   )
+
+  -- a row or the end mark with no type line before it is refused with 11 there (02, Ask 2)
+  pub untyped-refused-11 : Untyped recording t k → (r .code ≡ 11) × (r .place ≡ k)
+  untyped-refused-11 u = refused-11-iff-place .1 (inl (untyped-faulty recording refl t k u))
+
+-- every text is answered as where the type line may be left out, or has a row or an end mark with no type line before it
+pub as-before-or-untyped : {t before after : List ℕ} {r : ReadAnswer} → Reads t before after r
+    → ((r ≡ answerFor (judgeOf (requiring false recording) t) (textWords t) (length before)) × (after ≡ listFor (judgeOf (requiring false recording) t) (textWords t) (length before)))
+    ⊎ ((k : ℕ) × Untyped recording t k)
+unfolding readAnswer readList
+as-before-or-untyped {t} {before} h =
+    ⊎-elim
+    (λ e. inl (h .answer ∙ ap (λ (v : Verdict). answerFor v (textWords t) (length before)) e, h .list ∙ ap (λ (v : Verdict). listFor v (textWords t) (length before)) e))
+    inr
+    (same-or-untyped recording t)

@@ -1,4 +1,4 @@
-//! The examples of document 01 as requests, and names.
+//! The examples of document 01 as requests, names, and texts with no type line.
 
 use super::requests::made;
 use crate::desk::{
@@ -9,14 +9,19 @@ use crate::text::{MOST_INPUT, PROGRAM_BYTES, PROGRAM_WORDS};
 const RECORDING: &str = ".i 3\n.o 3\n.type fr\n111 110\n110 100\n100 000\n000 001\n001 001\n\
                          011 101\n101 010\n010 101\n.e\n";
 
-const NAMED: &str = ".i 3\n.o 3\n.ilb PUMP Valve_2 f\n.ob PUMP Valve_2 f\n111 110\n.e\n";
+const NAMED: &str = ".i 3\n.o 3\n.ilb PUMP Valve_2 f\n.ob PUMP Valve_2 f\n.type fr\n111 110\n.e\n";
+
+/// With names, and accepted but for the type line that it lacks.
+const UNTYPED: &str = ".i 3\n.o 3\n.ilb PUMP Valve_2 f\n.ob PUMP Valve_2 f\n111 110\n.e\n";
 
 /// What the output slices hold before a call.
 const RUBBISH: u64 = 77;
 
-/// K1 to K12, the other examples, the recording, the text's edges, and names.
+/// K1 to K12, the other examples, the recording, the text's edges, the type line, and names.
 pub fn examples() -> Vec<Request> {
-    [bench_examples(), size_examples(), text_examples(), name_examples()].concat()
+    let texts = [texts(), texts_about_the_type()].concat();
+    let read_and_run = texts.iter().flat_map(|text| read_and_run(text)).collect();
+    [bench_examples(), size_examples(), read_and_run, name_examples()].concat()
 }
 
 fn rubbish(room: usize) -> Vec<u64> {
@@ -98,52 +103,80 @@ fn size_examples() -> Vec<Request> {
     requests
 }
 
-fn text_examples() -> Vec<Request> {
+fn read_and_run(text: &str) -> [Request; 2] {
+    let words = || rubbish(PROGRAM_WORDS);
+    let slices = vec![bytes(text), words(), words(), words(), rubbish(PROGRAM_BYTES)];
+    [made(READ, vec![], vec![bytes(text), rubbish(10)]), made(RUN, vec![], slices)]
+}
+
+fn texts() -> Vec<String> {
     let long = "#".repeat(MOST_INPUT - RECORDING.len());
     let named = "#".repeat(MOST_INPUT - NAMED.len());
-    let texts = [
+    vec![
         RECORDING.to_string(),
         String::new(),
         "\n".to_string(),
         format!("{RECORDING}{long}"),
         format!("{RECORDING}{long}#"),
-        ".i 2\n.p 0\n.o 2\n01 10\n.e\n".to_string(),
-        ".i 2\n.p 0\n.o 2\n01 10\n".to_string(),
-        ".i 2\n.p 0\n.o 2\n01 10\nx\n.e\n".to_string(),
-        ".i 2\n.o 2\n-- 01\n.e".to_string(),
-        ".i 2\n.o 3\n.e".to_string(),
+        ".i 2\n.p 0\n.o 2\n.type fr\n01 10\n.e\n".to_string(),
+        ".i 2\n.p 0\n.o 2\n.type fr\n01 10\n".to_string(),
+        ".i 2\n.p 0\n.o 2\n.type fr\n01 10\nx\n.e\n".to_string(),
+        ".i 2\n.o 2\n.type fr\n-- 01\n.e".to_string(),
+        ".i 2\n.o 3\n.type fr\n.e".to_string(),
         ".e".to_string(),
         NAMED.to_string(),
         format!("{NAMED}{named}"),
-        ".i 2\n.o 2\n.ilb a b\n01 10\n.e\n".to_string(),
-        ".i 2\n.o 2\n.ob a b\n.e\n".to_string(),
-        ".ilb a b\n.ob a c\n.i 2\n.o 2\n.e\n".to_string(),
-        ".ilb a b\n.i 3\n.o 3\n.ob a b\n.e\n".to_string(),
-        ".i 10\n.o 10\n---------- 1111111111\n---------- 1111111111\n.e\n".to_string(),
+        ".i 2\n.o 2\n.type fr\n.ilb a b\n01 10\n.e\n".to_string(),
+        ".i 2\n.o 2\n.type fr\n.ob a b\n.e\n".to_string(),
+        ".ilb a b\n.ob a c\n.i 2\n.o 2\n.type fr\n.e\n".to_string(),
+        ".ilb a b\n.i 3\n.o 3\n.ob a b\n.type fr\n.e\n".to_string(),
+        ".i 10\n.o 10\n.type fr\n---------- 1111111111\n---------- 1111111111\n.e\n".to_string(),
+    ]
+}
+
+/// The type line first, between and last of the headers; then missing, late, twice, or of another
+/// type.
+fn texts_about_the_type() -> Vec<String> {
+    let texts = [
+        ".type fr\n.i 2\n.o 2\n01 10\n.e\n",
+        ".i 2\n \t.type\tfr#x\n.o 2\n01 10\n.e\n",
+        ".i 2\n.o 2\n.p 0\n\n.type fr\n.e\n",
+        ".i 2\n.o 2\n01 10\n.e\n",
+        ".i 2\n.o 2\n\n# x\n-- 10\n-- 10\n-- 10\n.e\n",
+        ".i 2\n.o 2\n.e\n",
+        ".i 2\n.o 2\n.p 0\n.end",
+        ".i 2\n.o 2\n",
+        ".i 2\n.o 2\n# .type fr\n01 10\n.e\n",
+        ".p 7\n.i 2\n.o 2\n01 10\n.e\n",
+        ".p 7\n.i 2\n.o 2\n.e\n",
+        ".i 2\n.o 2\n01 10\n.type fr\n.e\n",
+        ".i 2\n.o 2\n.e\n.type fr\n",
+        ".i 2\n.o 2\n.type fr\n.type fr\n01 10\n.e\n",
+        ".i 2\n.o 2\n.type f\n01 10\n.e\n",
+        ".i 2\n.o 2\n.type fd\n.e\n",
+        ".i 2\n.o 2\n.ilb a b\n01 10\n.e\n",
+        UNTYPED,
     ];
-    let mut requests = Vec::new();
-    for text in texts {
-        requests.push(made(READ, vec![], vec![bytes(&text), rubbish(10)]));
-        let words = || rubbish(PROGRAM_WORDS);
-        let slices = vec![bytes(&text), words(), words(), words(), rubbish(PROGRAM_BYTES)];
-        requests.push(made(RUN, vec![], slices));
-    }
-    requests
+    texts.map(str::to_string).to_vec()
 }
 
 fn bytes(text: &str) -> Vec<u64> {
     text.bytes().map(u64::from).collect()
 }
 
-/// Lookups and writes beside every pair of some texts: with names, without, and bad.
+/// Lookups and writes beside every pair of some texts: with names, without, and bad, some of these
+/// for want of the type line alone.
 fn name_examples() -> Vec<Request> {
     let texts = [
         NAMED,
-        ".i 5\n.o 5\n.ob 0 1 2 3 4\n.ilb 0 1 2 3 4 # five\n.e",
+        ".i 5\n.o 5\n.ob 0 1 2 3 4\n.type fr\n.ilb 0 1 2 3 4 # five\n.e",
         RECORDING,
         "",
-        ".p 1\n.i 3\n.o 3\n.ilb a b c\n.ob a b c\n.e\n",
-        ".i 3\n.o 3\n.ilb a b c\n.e\n",
+        ".p 1\n.i 3\n.o 3\n.ilb a b c\n.ob a b c\n.type fr\n.e\n",
+        ".i 3\n.o 3\n.ilb a b c\n.type fr\n.e\n",
+        UNTYPED,
+        ".i 3\n.o 3\n.e\n",
+        ".i 3\n.o 3\n.ilb a b c\n.ob a b c\n.type f\n.e\n",
     ];
     let mut requests = Vec::new();
     for panel in texts {

@@ -112,7 +112,7 @@ fn applied_and_written(set: &[Transition]) -> Vec<Request> {
     let states = [0, 1, 511, 682, 1_023, 1_024];
     let mut requests = states.map(apply).to_vec();
     let named = named_recording();
-    let plain = b".i 10\n.o 10\n.e\n".to_vec();
+    let plain = b".i 10\n.o 10\n.type fr\n.e\n".to_vec();
     for (panel, maker) in [(&plain, &plain), (&named, &vec![]), (&plain, &named)] {
         let length = sheet_text(N as u32, &sheet, panel, maker).len();
         for room in [length, length - 1, length + 40] {
@@ -127,7 +127,8 @@ fn applied_and_written(set: &[Transition]) -> Vec<Request> {
 fn named_recording() -> Vec<u8> {
     let names: Vec<String> = (0..N).map(|relay| format!(" VALVE_OF_TANK_{relay:02}")).collect();
     let names = names.concat();
-    format!(".i 10\n.o 10\n.ilb{names}\n.ob{names}\n1111111111 0000000000\n.e\n").into_bytes()
+    let headers = format!(".i 10\n.o 10\n.ilb{names}\n.ob{names}\n.type fr\n");
+    format!("{headers}1111111111 0000000000\n.e\n").into_bytes()
 }
 
 fn bytes(text: &[u8]) -> Vec<u64> {
@@ -152,7 +153,7 @@ fn elementary(rule: u64) -> Request {
 fn longest() -> Vec<Request> {
     let most = MOST_WORDS as usize;
     let row = b"---------- 1010101010\n";
-    let text = bytes(&[&b".i 10\n.o 10\n"[..], row, row, b".e\n"].concat());
+    let text = bytes(&[&b".i 10\n.o 10\n.type fr\n"[..], row, row, b".e\n"].concat());
     let comment: Vec<u64> = vec![u64::from(b'#'); MOST_BYTES as usize];
     vec![
         made(FRESH, vec![N], vec![rubbish(most)]),
@@ -169,7 +170,7 @@ fn longest_texts() -> Vec<Request> {
     let named = named_recording();
     let comment = vec![b'#'; MOST_BYTES as usize - named.len() - 1];
     let names_last = bytes(&[&comment, &b"\n"[..], &named].concat());
-    let plain = bytes(b".i 10\n.o 10\n.e\n");
+    let plain = bytes(b".i 10\n.o 10\n.type fr\n.e\n");
     let lookup = |column: u64, panel: &[u64], maker: &[u64]| {
         made(LOOKUP, vec![column], vec![panel.to_vec(), maker.to_vec()])
     };

@@ -33,7 +33,7 @@ pub fn text(dice: &mut Dice, to_learn: bool) -> Vec<u8> {
             decorated(dice, &lines)
         }
         92..=93 => any_bytes(dice),
-        94 => dice.pick(&[&b""[..], b"\n", b"#", b" ", b".e", b".i 1\n.o 1\n.e", b"\n\n"]).to_vec(),
+        94 => dice.pick(&SHORT).to_vec(),
         95..=96 => {
             let lines = recording(dice, to_learn);
             let text = decorated(dice, &lines);
@@ -42,6 +42,20 @@ pub fn text(dice: &mut Dice, to_learn: bool) -> Vec<u8> {
         _ => conflicting_or_numbered(dice),
     }
 }
+
+/// Texts with hardly anything in them.
+const SHORT: [&[u8]; 10] = [
+    b"",
+    b"\n",
+    b"#",
+    b" ",
+    b".e",
+    b"\n\n",
+    b".i 1\n.o 1\n.type fr\n.e",
+    b".i 1\n.o 1\n.e",
+    b".i 1\n.o 1\n",
+    b".type fr\n.e",
+];
 
 /// A random text to look names up in: mostly a recording of n relays, with names or without.
 pub fn lent_text(dice: &mut Dice, n: u32) -> Vec<u8> {
@@ -64,7 +78,7 @@ pub fn lent_text(dice: &mut Dice, n: u32) -> Vec<u8> {
     }
 }
 
-/// The lines of a recording that is accepted, without needless blanks.
+/// The lines of a recording, without needless blanks. It is accepted unless it lacks the type line.
 fn recording(dice: &mut Dice, to_learn: bool) -> Vec<Vec<u8>> {
     let (n, named) = (relays(dice), dice.one_in(3));
     recording_of(dice, n, named, to_learn)
@@ -73,9 +87,7 @@ fn recording(dice: &mut Dice, to_learn: bool) -> Vec<Vec<u8>> {
 fn recording_of(dice: &mut Dice, n: u32, named: bool, to_learn: bool) -> Vec<Vec<u8>> {
     let rows = rows(dice, n, to_learn);
     let mut lines = vec![format!(".i {n}").into_bytes(), format!(".o {n}").into_bytes()];
-    if dice.one_in(2) {
-        lines.push(b".type fr".to_vec());
-    }
+    lines.extend(type_line(dice));
     if dice.one_in(2) {
         lines.push(format!(".p {}", rows.len()).into_bytes());
     }
@@ -91,6 +103,15 @@ fn recording_of(dice: &mut Dice, n: u32, named: bool, to_learn: bool) -> Vec<Vec
         lines.insert(dice.place(lines.len() + 1), line);
     }
     lines
+}
+
+/// The type line; none once in eight, and seldom one of a type that is not read.
+fn type_line(dice: &mut Dice) -> Option<Vec<u8>> {
+    match dice.below(32) {
+        0..=3 => None,
+        4 => Some(b".type f".to_vec()),
+        _ => Some(b".type fr".to_vec()),
+    }
 }
 
 fn name_line(key: &[u8], names: &[Vec<u8>]) -> Vec<u8> {
@@ -220,6 +241,7 @@ fn any_lines(dice: &mut Dice) -> Vec<Vec<u8>> {
     let mut lines = Vec::new();
     if dice.one_in(2) {
         lines.extend([b".i 2".to_vec(), b".o 2".to_vec()]);
+        lines.extend(type_line(dice));
     }
     let count = dice.below(6);
     lines.extend((0..count).map(|_| dice.pick(&KINDS).to_vec()));
@@ -236,7 +258,7 @@ fn any_bytes(dice: &mut Dice) -> Vec<u8> {
 }
 
 /// Short recordings with what is otherwise seldom: two successors, or a number of rows that is
-/// wrong, huge or right only by its last 32 or 64 bits.
+/// wrong, huge or right only by its last 32 or 64 bits; some of them without a type line.
 fn conflicting_or_numbered(dice: &mut Dice) -> Vec<u8> {
     let number = *dice.pick(&[
         "",
@@ -258,7 +280,8 @@ fn conflicting_or_numbered(dice: &mut Dice) -> Vec<u8> {
         "01 00\n0- 00\n",
     ]);
     let end = *dice.pick(&[".e\n", ".e", ".end\n", "", ".e\n\n#x", ".e\n01 10\n"]);
-    format!(".i 2\n{number}.o 2\n{rows}{end}").into_bytes()
+    let typed = if dice.one_in(8) { "" } else { ".type fr\n" };
+    format!(".i 2\n{number}.o 2\n{typed}{rows}{end}").into_bytes()
 }
 
 /// The lines as bytes: blanks between fields and at either end, comments, LF after each line, and
@@ -312,7 +335,7 @@ fn damage_lines(dice: &mut Dice, lines: &mut Vec<Vec<u8>>) {
         return damage_names(dice, lines);
     }
     let (place, other) = (dice.place(lines.len()), dice.place(lines.len()));
-    match dice.below(12) {
+    match dice.below(14) {
         0 => {
             lines.remove(place);
         }
@@ -329,9 +352,39 @@ fn damage_lines(dice: &mut Dice, lines: &mut Vec<Vec<u8>>) {
             }
         }
         10 => lines[place].retain(|byte| *byte != b' '),
+        11 => damage_type(dice, lines),
+        12 => lines.truncate(place),
         _ => lines.push(dice.pick(&KINDS).to_vec()),
     }
 }
+
+/// The type line left out, moved, or changed to what is none; if the lines have one.
+fn damage_type(dice: &mut Dice, lines: &mut Vec<Vec<u8>>) {
+    let Some(place) = lines.iter().position(|line| line.starts_with(b".type")) else {
+        return;
+    };
+    let line = lines.remove(place);
+    match dice.below(4) {
+        0 => {}
+        1 => lines.insert(dice.place(lines.len() + 1), line),
+        _ => lines.insert(place, dice.pick(&NO_TYPES).to_vec()),
+    }
+}
+
+/// Lines that are nearly the type line.
+const NO_TYPES: [&[u8]; 11] = [
+    b".type f",
+    b".type fd",
+    b".type fdr",
+    b".type r",
+    b".type",
+    b".type fr fr",
+    b".type f r",
+    b".type FR",
+    b".Type fr",
+    b".typefr",
+    b".typ fr",
+];
 
 fn is_name_line(line: &[u8]) -> bool {
     line.starts_with(b".ilb") || line.starts_with(b".ob")
