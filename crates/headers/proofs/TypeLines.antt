@@ -7,9 +7,10 @@ use mathlib.Core.Logic.{_⊎_, inl, inr, ⊎-elim}
 use mathlib.Core.Bool.{Bool, true, false, _||_, false≢true}
 use native.Mathlib.Omega.{arith}
 use lib.ListN.{length}
-use Rattle.table.proofs.Basics.{and-i, and-l}
+use Rattle.table.proofs.Basics.{and-i, and-l, or-r}
 use Rattle.fields.specs.Texts.{linesOf}
 use Rattle.fields.proofs.JoinLaws.{lines-no-feeds}
+use Rattle.names.specs.Names.{namesIn}
 use Rattle.lines.specs.Lines.{lineOf, viewOf}
 use Rattle.lines.specs.declared.Line.{Line}
 use Rattle.lines.specs.declared.Line.the-variants.{Empty, Sized, Named, Typed, Rows, Row, End, Fault}
@@ -17,7 +18,7 @@ use Rattle.headers.specs.Layouts.{requiring}
 use Rattle.headers.specs.Headers.{hasHeader, lacks, lacksNone, readyOf, rowFits, endAllowed, rowAllowed, allowedOf, Point, allowedBy, allowedAt, nextAt, freshPoint}
 use Rattle.headers.specs.Verdicts.{judgeLines, judgeOf}
 use Rattle.headers.specs.Accepted.{isHeader, one, times}
-use Rattle.headers.specs.Places.{endsHeaders, FaultyLine, Untyped}
+use Rattle.headers.specs.Places.{isAside, FaultyLine, Untyped}
 use Rattle.headers.specs.declared.Layout.{Layout}
 use Rattle.headers.specs.declared.Header.{Header}
 use Rattle.headers.specs.declared.Header.the-variants.{TypeWord}
@@ -27,22 +28,23 @@ use Rattle.headers.specs.declared.Verdict.the-variants.{Bad}
 use Rattle.headers.proofs.Passing.{stateAfter, allPass, pass-here, pass-others}
 use Rattle.headers.proofs.Seeing.{ready-e, end-ready, has-next}
 use Rattle.headers.proofs.Machine.{passes, after}
+use Rattle.headers.proofs.After.{allowed-state}
 use Rattle.headers.proofs.Accepting.{asked-has}
 use Rattle.headers.proofs.PlaceLaws.{passes-begins, begins-passes, first-no-feeds, bad-iff-place}
 
 -- ---- with no type line before it, a row or the end mark is faulty
 
 -- a row or the end mark that is allowed finds no header missing
-ends-ready : (lay : Layout) (st : State) (l : Line) → endsHeaders (viewOf l) ≡ true → allowedOf lay st l ≡ true → readyOf lay (st .seen) ≡ true
+ends-ready : (lay : Layout) (st : State) (l : Line) → isAside (viewOf l) ≡ false → allowedOf lay st l ≡ true → readyOf lay (st .seen) ≡ true
 unfolding rowAllowed
-ends-ready lay st Empty e a = absurd (false≢true e)
-ends-ready lay st (Sized p n) e a = absurd (false≢true e)
-ends-ready lay st (Named p n) e a = absurd (false≢true e)
-ends-ready lay st (Typed t) e a = absurd (false≢true e)
-ends-ready lay st (Rows v) e a = absurd (false≢true e)
+ends-ready lay st Empty e a = absurd (false≢true (sym e))
+ends-ready lay st (Sized p n) e a = absurd (false≢true (sym e))
+ends-ready lay st (Named p n) e a = absurd (false≢true (sym e))
+ends-ready lay st (Typed t) e a = absurd (false≢true (sym e))
+ends-ready lay st (Rows v) e a = absurd (false≢true (sym e))
 ends-ready lay st (Row m) e a = end-ready lay st (and-l (endAllowed lay st) _ a)
 ends-ready lay st End e a = end-ready lay st a
-ends-ready lay st Fault e a = absurd (false≢true e)
+ends-ready lay st Fault e a = absurd (false≢true (sym e))
 
 none-first : (b : Bool) (k : ℕ) → one b + k ≡ 0 → (b ≡ false) × (k ≡ 0)
 none-first true k e = absurd (omega (arith, e))
@@ -58,10 +60,12 @@ after-none h (l ∷ ls) pt k e =
 
 module _ (lay : Layout) (required : lay .typed ≡ true) (t : List ℕ) (k : ℕ) (u : Untyped lay t k) where
   allowed-has : allowedAt lay (after (u .before) freshPoint 1) (u .line) ≡ true → hasHeader (after (u .before) freshPoint 1 .state .seen) TypeWord ≡ true
-  unfolding allowedAt allowedBy
+  unfolding allowedAt
   allowed-has a =
-      let st = after (u .before) freshPoint 1 .state in
-      asked-has lay (st .seen) TypeWord (ready-e lay (st .seen) (ends-ready lay st (lineOf (u .line)) (u .ends) (and-l _ _ a)) TypeWord) required
+      let pt = after (u .before) freshPoint 1 in
+      let x = lineOf (u .line) in
+      let ready = ends-ready lay (pt .state) x (u .ends) (allowed-state lay pt x (namesIn (u .line)) a) in
+      asked-has lay (pt .state .seen) TypeWord (ready-e lay (pt .state .seen) ready TypeWord) required
 
   pub untyped-faulty : FaultyLine lay t k
   untyped-faulty =
@@ -100,7 +104,7 @@ module _ (lay : Layout) where
   end-same st w = rw (ready-same (st .seen) w)
 
   -- a line is allowed by both or by neither if a type line stood there or it is neither row nor end mark
-  allowed-same : (st : State) (l : Line) → (st .seen .word ≡ true) ⊎ (endsHeaders (viewOf l) ≡ false) → allowedOf strict st l ≡ allowedOf free st l
+  allowed-same : (st : State) (l : Line) → (st .seen .word ≡ true) ⊎ (isAside (viewOf l) ≡ true) → allowedOf strict st l ≡ allowedOf free st l
   unfolding rowAllowed rowFits
   allowed-same st Empty h = refl
   allowed-same st (Sized p n) h = refl
@@ -108,12 +112,12 @@ module _ (lay : Layout) where
   allowed-same st (Typed t) h = refl
   allowed-same st (Rows v) h = refl
   allowed-same st (Row m) (inl w) = rw (end-same st w)
-  allowed-same st (Row m) (inr e) = absurd (false≢true (sym e))
+  allowed-same st (Row m) (inr e) = absurd (false≢true e)
   allowed-same st End (inl w) = end-same st w
-  allowed-same st End (inr e) = absurd (false≢true (sym e))
+  allowed-same st End (inr e) = absurd (false≢true e)
   allowed-same st Fault h = refl
 
-  at-same : (pt : Point) (l : List ℕ) → (pt .state .seen .word ≡ true) ⊎ (endsHeaders (viewOf (lineOf l)) ≡ false) → allowedAt strict pt l ≡ allowedAt free pt l
+  at-same : (pt : Point) (l : List ℕ) → (pt .state .seen .word ≡ true) ⊎ (isAside (viewOf (lineOf l)) ≡ true) → allowedAt strict pt l ≡ allowedAt free pt l
   unfolding allowedAt allowedBy
   at-same pt l h = rw (allowed-same (pt .state) (lineOf l) h)
 
@@ -122,11 +126,7 @@ module _ (lay : Layout) where
   unfolding judgeLines nextAt
   typed-same [] pt k w = refl
   typed-same (l ∷ ls) pt k w =
-      rw (at-same pt l (inl w), typed-same ls (nextAt pt l k) (k + 1) (has-next (pt .state) (lineOf l) k TypeWord ∙ go (isHeader TypeWord (lineOf l)) w))
-    where
-      go : (b : Bool) {c : Bool} → c ≡ true → (b || c) ≡ true
-      go true e = refl
-      go false e = e
+      rw (at-same pt l (inl w), typed-same ls (nextAt pt l k) (k + 1) (has-next (pt .state) (lineOf l) k TypeWord ∙ or-r (isHeader TypeWord (lineOf l)) _ w))
 
   -- lines with a row or the end mark that has no type line before it, those before it being allowed
   record Reached (ls : List (List ℕ)) (pt : Point) (k : ℕ) : Type 0 where
@@ -136,24 +136,24 @@ module _ (lay : Layout) where
     lines : ls ≡ before ++ line ∷ after
     passed : passes strict before pt k ≡ true
     none : times TypeWord before ≡ 0
-    ends : endsHeaders (viewOf (lineOf line)) ≡ true
+    ends : isAside (viewOf (lineOf line)) ≡ false
 
   same-or-reached : (ls : List (List ℕ)) (pt : Point) (k : ℕ) → (judgeLines strict ls pt k ≡ judgeLines free ls pt k) ⊎ Reached ls pt k
   unfolding judgeLines allPass times nextAt
   same-or-reached [] pt k = inl refl
   same-or-reached (l ∷ ls) pt k =
-      go (endsHeaders (viewOf (lineOf l))) refl (allowedAt strict pt l) refl (isHeader TypeWord (lineOf l)) refl (same-or-reached ls (nextAt pt l k) (k + 1))
+      go (isAside (viewOf (lineOf l))) refl (allowedAt strict pt l) refl (isHeader TypeWord (lineOf l)) refl (same-or-reached ls (nextAt pt l k) (k + 1))
     where
-      go : (e : Bool) → endsHeaders (viewOf (lineOf l)) ≡ e → (a : Bool) → allowedAt strict pt l ≡ a → (h : Bool) → isHeader TypeWord (lineOf l) ≡ h
+      go : (e : Bool) → isAside (viewOf (lineOf l)) ≡ e → (a : Bool) → allowedAt strict pt l ≡ a → (h : Bool) → isHeader TypeWord (lineOf l) ≡ h
           → (judgeLines strict ls (nextAt pt l k) (k + 1) ≡ judgeLines free ls (nextAt pt l k) (k + 1)) ⊎ Reached ls (nextAt pt l k) (k + 1)
           → (judgeLines strict (l ∷ ls) pt k ≡ judgeLines free (l ∷ ls) pt k) ⊎ Reached (l ∷ ls) pt k
-      go true e a b h i r = inr (record { before = []; line = l; after = ls; lines = refl; passed = refl; none = refl; ends = e })
-      go false e false b h i r = inl (rw (← at-same pt l (inr e), b))
-      go false e true b true i r =
+      go false e a b h i r = inr (record { before = []; line = l; after = ls; lines = refl; passed = refl; none = refl; ends = e })
+      go true e false b h i r = inl (rw (← at-same pt l (inr e), b))
+      go true e true b true i r =
           let w : nextAt pt l k .state .seen .word ≡ true = has-next (pt .state) (lineOf l) k TypeWord ∙ ap (λ (x : Bool). x || pt .state .seen .word) i in
           inl (rw (at-same pt l (inr e), typed-same ls (nextAt pt l k) (k + 1) w))
-      go false e true b false i (inl q) = inl (rw (at-same pt l (inr e), q))
-      go false e true b false i (inr r) =
+      go true e true b false i (inl q) = inl (rw (at-same pt l (inr e), q))
+      go true e true b false i (inr r) =
           inr (record {
             before = l ∷ r .before;
             line = r .line;

@@ -10,7 +10,7 @@ use Rattle.lines.specs.Lines.{lineOf, viewOf}
 use Rattle.lines.specs.declared.View.{View}
 use Rattle.lines.specs.declared.View.the-variants.{Cells, EndMark, Aside}
 use Rattle.lines.specs.declared.Line.the-variants.{Rows}
-use Rattle.headers.specs.Accepted.{isRow, times, rowsIn, Accepted}
+use Rattle.headers.specs.Accepted.{times, rowsIn, Accepted}
 use Rattle.headers.specs.declared.Layout.{Layout}
 use Rattle.headers.specs.declared.Header.the-variants.{TypeWord}
 
@@ -41,9 +41,11 @@ isEnd (Cells m) = false
 isEnd EndMark = true
 isEnd Aside = false
 
--- a line is a row or the end mark: with it the headers are over
-abbrev pub endsHeaders : View → Bool
-endsHeaders v = isRow v || isEnd v
+-- a line is neither a row nor the end mark
+abbrev pub isAside : View → Bool
+isAside (Cells m) = false
+isAside EndMark = false
+isAside Aside = true
 
 -- the end mark stands among lines
 unfoldable pub endIn : List (List ℕ) → Bool
@@ -69,7 +71,7 @@ pub record Untyped (lay : Layout) (t : List ℕ) (k : ℕ) : Type 0 where
   pub number : k ≡ length before + 1
   pub begins : Begins lay before
   pub none : times TypeWord before ≡ 0
-  pub ends : endsHeaders (viewOf (lineOf line)) ≡ true
+  pub ends : isAside (viewOf (lineOf line)) ≡ false
 
 -- every line passes but the end mark is missing: k is the number after the last line
 pub record EndMissing (lay : Layout) (t : List ℕ) (k : ℕ) : Type 0 where

@@ -21,9 +21,10 @@ use Rattle.lines.specs.declared.Part.the-variants.{Ins}
 use Rattle.lines.specs.declared.Line.{Line}
 use Rattle.lines.specs.declared.Line.the-variants.{Empty, Sized, Named, Typed, Rows, Row, End, Fault}
 use Rattle.headers.specs.Accepted.{isHeader}
+use Rattle.headers.specs.Places.{isAside}
 use Rattle.headers.specs.declared.Header.{Header}
 use Rattle.headers.specs.declared.Header.the-variants.{Names}
-use Rattle.naming.specs.Naming.{isAside, homeFrom, homeOf}
+use Rattle.naming.specs.Naming.{homeFrom, homeOf}
 use Rattle.naming.specs.declared.Home.the-variants.{Stands, Nowhere}
 
 -- a line as the code keeps it is the same header

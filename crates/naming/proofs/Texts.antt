@@ -19,6 +19,7 @@ use Rattle.lines.proofs.BoundLaws.{names-ok}
 use Rattle.headers.specs.Layouts.{recording}
 use Rattle.headers.specs.Verdicts.{judgeOf}
 use Rattle.headers.specs.Accepted.{isHeader, one, times, rowsIn, HeaderLine, RowLine, EmptyLine, All, Text, Accepted}
+use Rattle.headers.specs.Places.{isAside}
 use Rattle.headers.specs.declared.Layout.{Layout}
 use Rattle.headers.specs.declared.Header.{Header}
 use Rattle.headers.specs.declared.Header.the-variants.{Names}
@@ -26,7 +27,7 @@ use Rattle.headers.specs.declared.Verdict.the-variants.{Good}
 use Rattle.headers.proofs.Accepting.{good-iff-text}
 use Rattle.headers.proofs.Sizes.{all-map, all-append}
 use Rattle.headers.proofs.Seeing.{same-part}
-use Rattle.naming.specs.Naming.{isAside, homeFrom, homeOf}
+use Rattle.naming.specs.Naming.{homeFrom, homeOf}
 use Rattle.naming.specs.declared.Home.the-variants.{Stands, Nowhere}
 use Rattle.naming.proofs.HomeLaws.{home-stands}
 

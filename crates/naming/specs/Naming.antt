@@ -10,12 +10,11 @@ use Rattle.fields.specs.Texts.{linesOf}
 use Rattle.fields.specs.declared.Span.{Span}
 use Rattle.names.specs.Spans.{between, nameSpan}
 use Rattle.lines.specs.Lines.{lineOf, viewOf}
-use Rattle.lines.specs.declared.View.{View}
-use Rattle.lines.specs.declared.View.the-variants.{Cells, EndMark, Aside}
 use Rattle.lines.specs.declared.Part.the-variants.{Ins}
 use Rattle.headers.specs.Layouts.{recording}
 use Rattle.headers.specs.Accepted.{isHeader}
 use Rattle.headers.specs.Verdicts.{judgeOf}
+use Rattle.headers.specs.Places.{isAside}
 use Rattle.headers.specs.declared.Header.the-variants.{Names}
 use Rattle.headers.specs.declared.Verdict.{Verdict}
 use Rattle.headers.specs.declared.Verdict.the-variants.{Good, Bad}
@@ -28,12 +27,6 @@ use Rattle.naming.specs.declared.Source.the-variants.{Panel, Maker, Neit
 use Rattle.naming.specs.declared.Spot.{Spot}
 
 -- ---- one text
-
--- neither a row nor the end mark
-abbrev pub isAside : View → Bool
-isAside (Cells m) = false
-isAside EndMark = false
-isAside Aside = true
 
 -- where the `.ilb` line of some lines stands, before the first row and the end mark; the first line starts at a place
 unfoldable pub homeFrom : ℕ → List (List ℕ) → Home

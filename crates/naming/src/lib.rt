@@ -11,9 +11,10 @@ ghost use Rattle.lines.specs.declared.Part.the-variants.{Ins};
 ghost use Rattle.lines.specs.Lines.{viewOf};
 ghost use Rattle.headers.specs.Layouts.{samePart};
 ghost use Rattle.headers.specs.Accepted.{isHeader};
+ghost use Rattle.headers.specs.Places.{isAside};
 ghost use Rattle.headers.specs.declared.Header.the-variants.{Names};
 ghost use Rattle.headers.specs.declared.Verdict.the-variants.{Good};
-ghost use Rattle.naming.specs.Naming.{isAside, homeOf, namingFor, namingOf, makersSource, sourceOf, noName, spotIn, spotOf, Within, PartOf};
+ghost use Rattle.naming.specs.Naming.{homeOf, namingFor, namingOf, makersSource, sourceOf, noName, spotIn, spotOf, Within, PartOf};
 ghost use Rattle.naming.specs.Columns.{lineIn, nameLine};
 
 // Where the `.ilb` line of a text stands.
