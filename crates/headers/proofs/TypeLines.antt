@@ -7,7 +7,7 @@ use mathlib.Core.Logic.{_⊎_, inl, inr, ⊎-elim}
 use mathlib.Core.Bool.{Bool, true, false, _||_, false≢true}
 use native.Mathlib.Omega.{arith}
 use lib.ListN.{length}
-use Rattle.table.proofs.Basics.{and-i, and-l, or-r}
+use Rattle.table.proofs.Basics.{and-l}
 use Rattle.fields.specs.Texts.{linesOf}
 use Rattle.fields.proofs.JoinLaws.{lines-no-feeds}
 use Rattle.names.specs.Names.{namesIn}
@@ -25,9 +25,9 @@ use Rattle.headers.specs.declared.Header.the-variants.{TypeWord}
 use Rattle.headers.specs.declared.Seen.{Seen}
 use Rattle.headers.specs.declared.State.{State}
 use Rattle.headers.specs.declared.Verdict.the-variants.{Bad}
-use Rattle.headers.proofs.Passing.{stateAfter, allPass, pass-here, pass-others}
+use Rattle.headers.proofs.Passing.{stateAfter, pass-here, pass-others, pass-weaker, Stuck, pass-or-stuck}
 use Rattle.headers.proofs.Seeing.{ready-e, end-ready, has-next}
-use Rattle.headers.proofs.Machine.{passes, after}
+use Rattle.headers.proofs.Machine.{passes, after, judge-passing, judge-stuck}
 use Rattle.headers.proofs.After.{allowed-state}
 use Rattle.headers.proofs.Accepting.{asked-has}
 use Rattle.headers.proofs.PlaceLaws.{passes-begins, begins-passes, first-no-feeds, bad-iff-place}
@@ -58,15 +58,26 @@ after-none h (l ∷ ls) pt k e =
     let n = none-first (isHeader h (lineOf l)) (times h ls) e in
     after-none h ls (nextAt pt l k) (k + 1) (n .1) ∙ has-next (pt .state) (lineOf l) k h ∙ ap (λ (b : Bool). b || hasHeader (pt .state .seen) h) (n .0)
 
-module _ (lay : Layout) (required : lay .typed ≡ true) (t : List ℕ) (k : ℕ) (u : Untyped lay t k) where
-  allowed-has : allowedAt lay (after (u .before) freshPoint 1) (u .line) ≡ true → hasHeader (after (u .before) freshPoint 1 .state .seen) TypeWord ≡ true
-  unfolding allowedAt
-  allowed-has a =
-      let pt = after (u .before) freshPoint 1 in
-      let x = lineOf (u .line) in
-      let ready = ends-ready lay (pt .state) x (u .ends) (allowed-state lay pt x (namesIn (u .line)) a) in
-      asked-has lay (pt .state .seen) TypeWord (ready-e lay (pt .state .seen) ready TypeWord) required
+-- and one that does not stand after them is not among them
+none-after : (h : Header) (ls : List (List ℕ)) (pt : Point) (k : ℕ) → hasHeader (after ls pt k .state .seen) h ≡ false → times h ls ≡ 0
+unfolding times stateAfter nextAt
+none-after h [] pt k e = refl
+none-after h (l ∷ ls) pt k e =
+    let none = none-after h ls (nextAt pt l k) (k + 1) e in
+    rw (none, go (isHeader h (lineOf l)) (hasHeader (pt .state .seen) h) (sym (has-next (pt .state) (lineOf l) k h) ∙ sym (after-none h ls (nextAt pt l k) (k + 1) none) ∙ e))
+  where
+    go : (b c : Bool) → (b || c) ≡ false → b ≡ false
+    go true c f = f
+    go false c f = refl
 
+-- where the type line is required, a row or the end mark is allowed only after it
+ends-typed : (lay : Layout) (pt : Point) (l : List ℕ) → lay .typed ≡ true → isAside (viewOf (lineOf l)) ≡ false → allowedAt lay pt l ≡ true → pt .state .seen .word ≡ true
+unfolding allowedAt
+ends-typed lay pt l required e a =
+    let ready = ends-ready lay (pt .state) (lineOf l) e (allowed-state lay pt (lineOf l) (namesIn l) a) in
+    asked-has lay (pt .state .seen) TypeWord (ready-e lay (pt .state .seen) ready TypeWord) required
+
+module _ (lay : Layout) (required : lay .typed ≡ true) (t : List ℕ) (k : ℕ) (u : Untyped lay t k) where
   pub untyped-faulty : FaultyLine lay t k
   untyped-faulty =
       record {
@@ -79,7 +90,7 @@ module _ (lay : Layout) (required : lay .typed ≡ true) (t : List ℕ) (k : ℕ
         begins-no-more = λ b.
             let p = begins-passes lay (u .before ++ u .line ∷ []) b in
             let a = pass-here (allowedAt lay) nextAt (u .line) [] _ _ (pass-others (allowedAt lay) nextAt (u .before) (u .line ∷ []) freshPoint 1 p) in
-            false≢true (sym (after-none TypeWord (u .before) freshPoint 1 (u .none)) ∙ allowed-has a);
+            false≢true (sym (after-none TypeWord (u .before) freshPoint 1 (u .none)) ∙ ends-typed lay (after (u .before) freshPoint 1) (u .line) required (u .ends) a);
       }
 
   pub untyped-bad : judgeOf lay t ≡ Bad k
@@ -121,65 +132,62 @@ module _ (lay : Layout) where
   unfolding allowedAt allowedBy
   at-same pt l h = rw (allowed-same (pt .state) (lineOf l) h)
 
-  -- lines after a type line
-  typed-same : (ls : List (List ℕ)) (pt : Point) (k : ℕ) → pt .state .seen .word ≡ true → judgeLines strict ls pt k ≡ judgeLines free ls pt k
-  unfolding judgeLines nextAt
-  typed-same [] pt k w = refl
-  typed-same (l ∷ ls) pt k w =
-      rw (at-same pt l (inl w), typed-same ls (nextAt pt l k) (k + 1) (has-next (pt .state) (lineOf l) k TypeWord ∙ or-r (isHeader TypeWord (lineOf l)) _ w))
-
-  -- lines with a row or the end mark that has no type line before it, those before it being allowed
-  record Reached (ls : List (List ℕ)) (pt : Point) (k : ℕ) : Type 0 where
-    before : List (List ℕ)
-    line : List ℕ
-    after : List (List ℕ)
-    lines : ls ≡ before ++ line ∷ after
-    passed : passes strict before pt k ≡ true
-    none : times TypeWord before ≡ 0
-    ends : isAside (viewOf (lineOf line)) ≡ false
-
-  same-or-reached : (ls : List (List ℕ)) (pt : Point) (k : ℕ) → (judgeLines strict ls pt k ≡ judgeLines free ls pt k) ⊎ Reached ls pt k
-  unfolding judgeLines allPass times nextAt
-  same-or-reached [] pt k = inl refl
-  same-or-reached (l ∷ ls) pt k =
-      go (isAside (viewOf (lineOf l))) refl (allowedAt strict pt l) refl (isHeader TypeWord (lineOf l)) refl (same-or-reached ls (nextAt pt l k) (k + 1))
+  -- what the one allows the other does
+  at-free : (pt : Point) (l : List ℕ) → allowedAt strict pt l ≡ true → allowedAt free pt l ≡ true
+  at-free pt l a = go (isAside (viewOf (lineOf l))) refl
     where
-      go : (e : Bool) → isAside (viewOf (lineOf l)) ≡ e → (a : Bool) → allowedAt strict pt l ≡ a → (h : Bool) → isHeader TypeWord (lineOf l) ≡ h
-          → (judgeLines strict ls (nextAt pt l k) (k + 1) ≡ judgeLines free ls (nextAt pt l k) (k + 1)) ⊎ Reached ls (nextAt pt l k) (k + 1)
-          → (judgeLines strict (l ∷ ls) pt k ≡ judgeLines free (l ∷ ls) pt k) ⊎ Reached (l ∷ ls) pt k
-      go false e a b h i r = inr (record { before = []; line = l; after = ls; lines = refl; passed = refl; none = refl; ends = e })
-      go true e false b h i r = inl (rw (← at-same pt l (inr e), b))
-      go true e true b true i r =
-          let w : nextAt pt l k .state .seen .word ≡ true = has-next (pt .state) (lineOf l) k TypeWord ∙ ap (λ (x : Bool). x || pt .state .seen .word) i in
-          inl (rw (at-same pt l (inr e), typed-same ls (nextAt pt l k) (k + 1) w))
-      go true e true b false i (inl q) = inl (rw (at-same pt l (inr e), q))
-      go true e true b false i (inr r) =
-          inr (record {
-            before = l ∷ r .before;
-            line = r .line;
-            after = r .after;
-            lines = ap (λ (x : List (List ℕ)). l ∷ x) (r .lines);
-            passed = and-i _ _ b (r .passed);
-            none = rw (i, r .none);
-            ends = r .ends;
-          })
+      go : (b : Bool) → isAside (viewOf (lineOf l)) ≡ b → allowedAt free pt l ≡ true
+      go true e = sym (at-same pt l (inr e)) ∙ a
+      go false e = sym (at-same pt l (inl (ends-typed strict pt l refl e a))) ∙ a
+
+  -- a line that only the other allows is a row or the end mark, and no type line stood there
+  only-free : (pt : Point) (l : List ℕ) → allowedAt strict pt l ≡ false → allowedAt free pt l ≡ true → (isAside (viewOf (lineOf l)) ≡ false) × (pt .state .seen .word ≡ false)
+  only-free pt l a f = (aside (isAside (viewOf (lineOf l))) refl, typed (pt .state .seen .word) refl)
+    where
+      aside : (b : Bool) → isAside (viewOf (lineOf l)) ≡ b → b ≡ false
+      aside true e = absurd (false≢true (sym a ∙ at-same pt l (inr e) ∙ f))
+      aside false e = refl
+
+      typed : (b : Bool) → pt .state .seen .word ≡ b → b ≡ false
+      typed true e = absurd (false≢true (sym a ∙ at-same pt l (inl e) ∙ f))
+      typed false e = refl
 
   -- every text is judged as where the type line may be left out, or has a row or an end mark with no type line before it
-  pub same-or-untyped : (t : List ℕ) → (judgeOf strict t ≡ judgeOf free t) ⊎ ((k : ℕ) × Untyped strict t k)
-  unfolding judgeOf
-  same-or-untyped t = ⊎-elim inl (λ r. inr (untyped r)) (same-or-reached (linesOf t) freshPoint 1)
-    where
-      untyped : Reached (linesOf t) freshPoint 1 → (k : ℕ) × Untyped strict t k
-      untyped r = (
-        length (r .before) + 1,
-        record {
-          before = r .before;
-          line = r .line;
-          after = r .after;
-          lines = r .lines;
-          number = refl;
-          begins = passes-begins strict (r .before) (first-no-feeds (r .before) (r .line ∷ r .after) (rw (r .lines) at (lines-no-feeds t))) (r .passed);
-          none = r .none;
-          ends = r .ends;
-        },
-      )
+  module _ (t : List ℕ) where
+    abbrev Either : Type 0
+    Either = (judgeOf strict t ≡ judgeOf free t) ⊎ ((k : ℕ) × Untyped strict t k)
+
+    passing : passes strict (linesOf t) freshPoint 1 ≡ true → Either
+    unfolding judgeOf
+    passing p =
+        let q = pass-weaker (allowedAt strict) (allowedAt free) nextAt at-free (linesOf t) freshPoint 1 p in
+        inl (judge-passing strict (linesOf t) freshPoint 1 p ∙ sym (judge-passing free (linesOf t) freshPoint 1 q))
+
+    stuck : Stuck (allowedAt strict) nextAt (linesOf t) freshPoint 1 → Either
+    unfolding judgeOf
+    stuck s = go (allowedAt free (after (s .before) freshPoint 1) (s .line)) refl
+      where
+        bad : (any : Layout) → passes any (s .before) freshPoint 1 ≡ true → allowedAt any (after (s .before) freshPoint 1) (s .line) ≡ false
+            → judgeLines any (linesOf t) freshPoint 1 ≡ Bad (length (s .before) + 1)
+        bad any p a = ap (λ (x : List (List ℕ)). judgeLines any x freshPoint 1) (s .lines) ∙ judge-stuck any (s .before) (s .line) (s .after) freshPoint 1 p a
+
+        go : (f : Bool) → allowedAt free (after (s .before) freshPoint 1) (s .line) ≡ f → Either
+        go false f = inl (bad strict (s .passed) (s .stopped) ∙ sym (bad free (pass-weaker (allowedAt strict) (allowedAt free) nextAt at-free (s .before) freshPoint 1 (s .passed)) f))
+        go true f =
+            let o = only-free (after (s .before) freshPoint 1) (s .line) (s .stopped) f in
+            inr (
+              length (s .before) + 1,
+              record {
+                before = s .before;
+                line = s .line;
+                after = s .after;
+                lines = s .lines;
+                number = refl;
+                begins = passes-begins strict (s .before) (first-no-feeds (s .before) (s .line ∷ s .after) (rw (s .lines) at (lines-no-feeds t))) (s .passed);
+                none = none-after TypeWord (s .before) freshPoint 1 (o .1);
+                ends = o .0;
+              },
+            )
+
+    pub same-or-untyped : Either
+    same-or-untyped = ⊎-elim passing stuck (pass-or-stuck (allowedAt strict) nextAt (linesOf t) freshPoint 1)
