@@ -19,13 +19,13 @@ typedef struct {
     Take *take;
     Join *join;
     Apply *apply;
-    Read *read;
+    Read *read, *read_sheet;
     Write *write_sheet;
 } Rivals;
-static const Rivals plain = {same_learn, primes_learn, same_take, same_join, same_apply, same_read, same_write_sheet};
+static const Rivals plain = {same_learn, primes_learn, same_take, same_join, same_apply, same_read, same_read_sheet, same_write_sheet};
 #ifdef NATIVE
 static const Rivals native = {same_learn_native, primes_learn_native, same_take_native, same_join_native,
-                              same_apply_native, same_read_native, same_write_sheet_native};
+                              same_apply_native, same_read_native, same_read_sheet_native, same_write_sheet_native};
 static const Rivals *const rivals[SIDES] = {NULL, &plain, &native, &plain, &native};
 #else
 static const Rivals *const rivals[SIDES] = {NULL, &plain, NULL, &plain, NULL};
@@ -56,6 +56,8 @@ static Piece from, a, b;
 static uint32_t extra_state, extra_next;
 static uint8_t recording[32768];
 static size_t recording_len;
+static uint8_t moved[TEXT];
+static size_t moved_len;
 
 static double seconds(void) {
     struct timespec t;
@@ -120,6 +122,20 @@ static void write_recording(void) {
     recording_len = (size_t)(at + sprintf((char *)at, ".e\n") - recording);
 }
 
+/* The sheet to start from as text, with its rows moved. */
+static void write_moved(void) {
+    ntekuzino_written done;
+    ntekuzino_write_sheet(N, from.sheet, SHEET, from.answer[3], recording, 0, recording, 0, moved, TEXT, &done);
+    moved_len = done.length;
+    uint8_t row[2 * N + 2], *first = moved + moved_len - 3 - from.answer[3] * sizeof row;
+    for (size_t k = from.answer[3]; k > 1; k--) {
+        uint8_t *last = first + (k - 1) * sizeof row, *other = first + random_below((uint32_t)k) * sizeof row;
+        memcpy(row, last, sizeof row);
+        memmove(last, other, sizeof row);
+        memcpy(other, row, sizeof row);
+    }
+}
+
 /* ---- the calls, by each side; (b) makes the sheet anew from the transitions. Answers are kept as rows of numbers, to be
  * compared; ours are structs of the same layout. */
 
@@ -151,6 +167,8 @@ static void read_ours(Side *s) {
     ntekuzino_read(recording, recording_len, s->list, BOOK, (ntekuzino_reading *)s->answer);
 }
 static void read_same(Side *s) { rival->read(recording, recording_len, s->list, BOOK, s->answer); }
+static void back_ours(Side *s) { ntekuzino_read_sheet(moved, moved_len, s->sheet, SHEET, (ntekuzino_reading *)s->answer); }
+static void back_same(Side *s) { rival->read_sheet(moved, moved_len, s->sheet, SHEET, s->answer); }
 /* Without names, which the rival does not know: both texts are empty. */
 static void write_ours(Side *s) {
     ntekuzino_write_sheet(N, from.sheet, SHEET, from.answer[3], recording, 0, recording, 0, s->text, TEXT,
@@ -230,6 +248,7 @@ int main(int argc, char **argv) {
     Call learn = {learn_ours, learn_same, learn_primes}, take = {take_ours, take_same, take_primes};
     Call join = {join_ours, join_same, learn_primes}, apply = {apply_ours, apply_same, NULL};
     Call read = {read_ours, read_same, NULL}, write = {write_ours, write_same, NULL};
+    Call back = {back_ours, back_same, NULL};
     printf("%-6s %-29s %6s", "call", "input", "rules");
     for (int k = SAME; k < SIDES; k++)
         if (rivals[k]) printf("  %s", columns[k]);
@@ -248,6 +267,8 @@ int main(int argc, char **argv) {
     measure("take", "one row more", from.answer[3], take);
     measure("apply", "that sheet", from.answer[3], apply);
     measure("write", "that sheet", from.answer[3], write);
+    write_moved();
+    measure("back", "that sheet, its rows moved", from.answer[3], back);
     halves("11 random rows, two halves", join);
 
     random_rows(150);
@@ -256,6 +277,8 @@ int main(int argc, char **argv) {
     measure("take", "one row more", from.answer[3], take);
     measure("apply", "that sheet", from.answer[3], apply);
     measure("write", "that sheet", from.answer[3], write);
+    write_moved();
+    measure("back", "that sheet, its rows moved", from.answer[3], back);
     halves("150 random rows, two halves", join);
 
     random_rows(500);

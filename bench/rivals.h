@@ -13,6 +13,7 @@
 #define same_join same_join_native
 #define same_apply same_apply_native
 #define same_read same_read_native
+#define same_read_sheet same_read_sheet_native
 #define same_write_sheet same_write_sheet_native
 #define primes_learn primes_learn_native
 #endif
@@ -36,7 +37,7 @@ Learn same_learn, same_learn_native;
 Take same_take, same_take_native;
 Join same_join, same_join_native;
 Apply same_apply, same_apply_native;
-Read same_read, same_read_native;
+Read same_read, same_read_native, same_read_sheet, same_read_sheet_native;
 Write same_write_sheet, same_write_sheet_native;
 
 /* n from 1 to 10 and valid words are taken for granted. Returns 0, or 7, 8, 9; struck and added are not known, and 0. */

@@ -81,6 +81,11 @@ static void lookup(const uint64_t *x, size_t *answer) {
     ntekuzino_lookup(BYTES(0), BYTES(1), x[0], (ntekuzino_name *)answer);
 }
 
+static void read_sheet(const uint64_t *x, size_t *answer) {
+    (void)x;
+    ntekuzino_read_sheet(BYTES(0), WORDS(1), (ntekuzino_reading *)answer);
+}
+
 /* A call, number k in row k - 1. Numbers: `w` of 32 bits, `c` of 64. Slices: `w` words, `b` bytes; capital where the
  * call may write it, so that it stands in the answer. */
 typedef struct {
@@ -101,6 +106,7 @@ static const Call calls[] = {
     {"wc", "wbbB", 7, write_sheet},
     {"", "bWWWB", 1, run},
     {"c", "bb", 3, lookup},
+    {"", "bW", 4, read_sheet},
 };
 
 /* ---- words in and out */

@@ -1,6 +1,6 @@
-/* Learns the panel of document 000 whole and in two pieces, joins the pieces, and prints the sheet with the maker's names;
- * every call is made once and its answer checked. Prints what it found wrong, and exits with 1 then. examples/run builds
- * and runs it. */
+/* Learns the panel of document 000 whole and in two pieces, joins the pieces, prints the sheet with the maker's names, and
+ * reads that back; every call is made once and its answer checked. Prints what it found wrong, and exits with 1 then.
+ * examples/run builds and runs it. */
 #include "ntekuzino.h"
 
 #include <stdio.h>
@@ -92,6 +92,23 @@ static void names(void) {
     expect(ntekuzino_lookup(TEXT(maker), TEXT(text), 2, &name) == 5 && name.text == 0, "the panel's own names come first");
 }
 
+/* A sheet's text gives the words that it was written from, and has its names; a recording's is no sheet's. */
+static void read_back(const uint8_t *sheet, size_t length, const Piece *written) {
+    uint32_t words[ROOM] = {0};
+    ntekuzino_reading read = {0};
+    ntekuzino_name name = {0};
+    ntekuzino_read_sheet(sheet, length, words, ROOM, &read);
+    printf("read back: code %zu, n %zu, rules %zu\n", read.code, read.n, read.count);
+    expect(read.n == N && read.count == written->answer.sheet_count && memcmp(words, written->sheet, sizeof words) == 0,
+           "the sheet read is the one that was written");
+    expect(ntekuzino_lookup(sheet, length, TEXT(""), 1, &name) == 5 && memcmp(sheet + name.start, "VALVE", 5) == 0,
+           "the sheet has the names");
+    expect(ntekuzino_read_sheet(sheet, length, words, 2, &read) == NTEKUZINO_BOOK_ROOM && words[0] == 0,
+           "three rules in two words are 8");
+    expect(ntekuzino_read_sheet(TEXT(text), words, ROOM, &read) == NTEKUZINO_LAYOUT && read.place == 3,
+           "a recording's type is faulty in a sheet");
+}
+
 int main(void) {
     uint32_t words[ROOM] = {0};
     ntekuzino_reading read = {0};
@@ -127,6 +144,7 @@ int main(void) {
     names();
     ntekuzino_write_sheet(N, joined.sheet, ROOM, sheets, TEXT(text), TEXT(maker), out, sizeof out, &written);
     fwrite(out, 1, written.length, stdout);
+    read_back(out, written.length, &joined);
     ntekuzino_write_sheet(N, joined.sheet, ROOM, sheets, TEXT(text), TEXT(""), out, sizeof out, &written);
     size_t length = written.length;
     expect(ntekuzino_write_sheet(N, joined.sheet, ROOM, sheets, TEXT(text), TEXT(""), again, length - 1, &written) ==

@@ -22,8 +22,8 @@
 #include <stdint.h>
 
 /* Major: a call answers otherwise, or takes other arguments. Minor: calls came. Patch: nothing that a caller can see. */
-#define NTEKUZINO_VERSION "3.0.0"
-#define NTEKUZINO_VERSION_MAJOR 3
+#define NTEKUZINO_VERSION "4.0.0"
+#define NTEKUZINO_VERSION_MAJOR 4
 #define NTEKUZINO_VERSION_MINOR 0
 #define NTEKUZINO_VERSION_PATCH 0
 
@@ -35,17 +35,17 @@ _Static_assert(sizeof(size_t) == 8, "the library is compiled for 64 bits");
 #endif
 
 /* The codes. A code is given exactly when no earlier check applies; the order is that of the numbers, except that take
- * asks for 1 beside 7, after 6. */
+ * asks for 1 beside 7, after 6, and that of a text 11 is asked first, then 8, then 5. */
 enum {
     NTEKUZINO_DONE = 0,
     NTEKUZINO_BOOKED = 1,          /* take: this very transition is booked; nothing changes */
     NTEKUZINO_PANEL_SIZE = 2,      /* n is 0 or above 10 */
     NTEKUZINO_COUNT = 3,           /* a count exceeds its slice, or a session's totals do not fit */
     NTEKUZINO_BOOK = 4,            /* a book is not good */
-    NTEKUZINO_SHEET = 5,           /* a sheet is not good */
+    NTEKUZINO_SHEET = 5,           /* a sheet, lent as words or read from text, is not good */
     NTEKUZINO_STATE = 6,           /* a state or successor is 2^n or more; in learn, a word that is no transition */
     NTEKUZINO_OTHER_SUCCESSOR = 7, /* the state is booked with another successor */
-    NTEKUZINO_BOOK_ROOM = 8,       /* the book, or the list read, needs more words than its slice */
+    NTEKUZINO_BOOK_ROOM = 8,       /* the book, or what is read, needs more words than its slice */
     NTEKUZINO_SHEET_ROOM = 9,      /* the sheet has more rules than its slice */
     NTEKUZINO_NOT_REPRODUCED = 10, /* learn: the sheet does not reproduce a booked transition */
     NTEKUZINO_LAYOUT = 11,         /* the text breaks the layout */
@@ -68,7 +68,7 @@ typedef struct {
     size_t code, place, book_count, sheet_count, struck, added, length;
 } ntekuzino_written;
 
-/* read's. */
+/* read's and read_sheet's. */
 typedef struct {
     size_t code, place, n, count;
 } ntekuzino_reading;
@@ -138,21 +138,31 @@ uint32_t ntekuzino_session_take(ntekuzino_session *session, uint32_t *book, size
                                 size_t sheet_len, uint32_t i, uint32_t j, ntekuzino_answer *answer);
 
 /* Reads a recording (PLA text) into transition words. Codes 8, 11, with the line from 1 as the place of 11; where no line
- * `.type fr` stands before it, the first row or the end mark is that line. Done: n, the number of words, and 0 beyond. Refused: the list is all 0, n and count are 0. */
+ * `.type fr` stands before it, the first row or the end mark is that line. Done: n, the number of words, and 0 beyond.
+ * Refused: the list is all 0, n and count are 0. */
 uint32_t ntekuzino_read(const uint8_t *text, size_t text_len, uint32_t *list, size_t list_len,
                         ntekuzino_reading *answer);
 
-/* Writes a sheet as text at the start of out, and gives its length. panel and maker are recording texts, or empty: if
- * lookup finds a name in them for every column 0 to n - 1, the text has the lines `.ilb` and `.ob`, else neither. Codes
- * 2, 3, 5, 12; a bad text is no reason to refuse. Bytes behind the text stay; refused, no byte changes and the length
- * is 0. */
+/* Reads a sheet's text into rule words, in increasing order whatever that of its rows. `.type f` is asked for where read
+ * asks for `.type fr`, and each row has exactly one `1` among its outputs. Codes 11, as in read; then 8, if the rows as
+ * written, repeats counted, are more than the words; then 5, if they are no good sheet: a rule stands twice, or has all
+ * conditions of another rule of its relay. Done: n, the number of words, and 0 beyond; the words are a good sheet.
+ * Refused: the words are all 0, n and count are 0. */
+uint32_t ntekuzino_read_sheet(const uint8_t *text, size_t text_len, uint32_t *words, size_t words_len,
+                              ntekuzino_reading *answer);
+
+/* Writes a sheet as text at the start of out, and gives its length. panel and maker are texts of recordings or of
+ * sheets, or empty: if lookup finds a name in them for every column 0 to n - 1, the text has the lines `.ilb` and `.ob`,
+ * else neither. Codes 2, 3, 5, 12; a bad text is no reason to refuse. Bytes behind the text stay; refused, no byte
+ * changes and the length is 0. */
 uint32_t ntekuzino_write_sheet(uint32_t n, const uint32_t *sheet, size_t sheet_len, size_t sheet_count,
                                const uint8_t *panel, size_t panel_len, const uint8_t *maker, size_t maker_len,
                                uint8_t *out, size_t out_len, ntekuzino_written *answer);
 
 /* Looks a column's name up: in the `.ilb` line of the panel's text or, if that text is good and has no names, of the
- * maker's. There is no name if neither text has any, if the text with names has no such column, or if a text consulted
- * is one that read refuses with 11, as it does an empty one. Returns the length again. */
+ * maker's. Each may be a recording or a sheet. There is no name if neither text has any, if the text with names has no
+ * such column, or if a text consulted is one that both read and read_sheet refuse with 11, as they do an empty one; what
+ * is refused otherwise is good here. Returns the length again. */
 size_t ntekuzino_lookup(const uint8_t *panel, size_t panel_len, const uint8_t *maker, size_t maker_len, size_t column,
                         ntekuzino_name *name);
 

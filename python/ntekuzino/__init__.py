@@ -15,6 +15,10 @@ Rule(head=1, on=(2,), off=())
 .e
 >>> ntekuzino.lookup(".i 1\\n.o 1\\n.ilb PUMP\\n.ob PUMP\\n.type fr\\n.e\\n", "", 0)
 LookedUp(text=0, start=15, length=4, name=b'PUMP')
+>>> ntekuzino.read_sheet(".i 2\\n.o 2\\n.type f\\n-1 01\\n1- 10\\n.e\\n").words
+[1024, 1050624]
+>>> ntekuzino.check(".i 1\\n.o 1\\n.type f\\n1 1\\n1 1\\n.e\\n").text
+'refused 5 at 0\\n'
 >>> ntekuzino.explain(".i 1\\n.o 1\\n.type fr\\n0 0\\n")
 'refused 11 at 5\\nThe text ends after line 4, with no end mark. A recording ends with a line `.e` or `.end`.'
 """
@@ -39,6 +43,7 @@ from .calls import (
     learn,
     lookup,
     read,
+    read_sheet,
     rule_of,
     run,
     session_start,
@@ -50,14 +55,15 @@ from .calls import (
     transition_of,
     write_sheet,
 )
+from .checking import check
 from .desk import Desk, DeskError, version
 from .explaining import explain
 from .sheets import Outcome, sheet
 
-__version__ = "3.0.0"
+__version__ = "4.0.0"
 
 __all__ = [
     "Answer", "Applied", "Desk", "DeskError", "Fresh", "LookedUp", "Outcome", "Piece", "Ran", "Reading", "Rule", "Session", "SessionTaken", "Started",
-    "Taken", "Written", "apply", "columns", "explain", "fresh", "join", "learn", "lookup", "read", "rule_of", "run", "session_start", "session_take",
-    "shared", "sheet", "state_of", "take", "transition", "transition_of", "version", "write_sheet",
+    "Taken", "Written", "apply", "check", "columns", "explain", "fresh", "join", "learn", "lookup", "read", "read_sheet", "rule_of", "run",
+    "session_start", "session_take", "shared", "sheet", "state_of", "take", "transition", "transition_of", "version", "write_sheet",
 ]

@@ -23,7 +23,7 @@ from .pages import csv_table, html_page, text_table
 from .sheets import Outcome, sheet, sizes
 
 #: Raised when rows or explanations change their form, so that kept ones are made anew.
-FORM = "2"
+FORM = "3"
 OWN = ".archive"
 TABLES = ("table.txt", "table.csv", "index.html")
 

@@ -25,6 +25,7 @@ READ = Call(8, "", "bW", 4)
 WRITE_SHEET = Call(9, "wc", "wbbB", 7)
 RUN = Call(10, "", "bWWWB", 1)
 LOOKUP = Call(11, "c", "bb", 3)
+READ_SHEET = Call(12, "", "bW", 4)
 
 #: The program's rooms: list, book and sheet words, and bytes in and out.
 PROGRAM_WORDS = 1_024
@@ -70,7 +71,7 @@ def state_of(cells: str) -> int:
 
 @dataclass(frozen=True)
 class Answer:
-    """What every call but read and run answers. Code 0 is done; numbers that a call has no use for are 0."""
+    """What every call but lookup, run and the two that read answers. Code 0 is done; numbers that a call has no use for are 0."""
 
     code: int
     place: int
@@ -152,7 +153,7 @@ class SessionTaken(Answer):
 
 @dataclass(frozen=True)
 class Reading:
-    """Read's answer, and the list slice after."""
+    """The answer of read or read_sheet, and the list slice after."""
 
     code: int
     place: int
@@ -166,7 +167,7 @@ class Reading:
 
     @property
     def words(self) -> List[int]:
-        """The transition words in use."""
+        """The words in use: transitions, or a sheet's rules."""
         return self.list[: self.count]
 
 
@@ -294,6 +295,12 @@ def read(text: Text, list_: Lent = 65_536, *, desk: Desk | None = None) -> Readi
     return Reading(code, place, n, count, after)
 
 
+def read_sheet(text: Text, list_: Lent = 65_536, *, desk: Desk | None = None) -> Reading:
+    """Reads a sheet's text into rule words, which come in increasing order and are a good sheet."""
+    (code, place, n, count), (after,) = (desk or shared()).ask(READ_SHEET, [], [as_bytes(text), lent(list_)])
+    return Reading(code, place, n, count, after)
+
+
 def _text_room(n: int, rules: int) -> int:
     """How long the text of so many rules can be: its headers with two lines of ten names of 16 characters, and its rows."""
     return 64 + 2 * (5 + 10 * 17) + rules * (2 * min(n, 10) + 2)
@@ -318,7 +325,7 @@ def write_sheet(
 
 
 def lookup(panel: Text, maker: Text, column: int, *, desk: Desk | None = None) -> LookedUp:
-    """The name of a column: from the panel's recording text or, if that is good and has no names, from the maker's."""
+    """The name of a column: from the panel's text or, if that is good and has no names, from the maker's. Each may be a recording or a sheet."""
     texts = as_bytes(panel), as_bytes(maker)
     (text, start, length), _ = (desk or shared()).ask(LOOKUP, [column], texts)
     return LookedUp(text, start, length, texts[text][start : start + length])

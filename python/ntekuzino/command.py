@@ -1,4 +1,4 @@
-"""The command `ntekuzino`. Status 0: done; 1: the library refused; 2: it could not be done (usage, unreadable, unwritable, nothing run)."""
+"""The command `ntekuzino`. Status 0: done; 1: the library refused, or a sheet is not the recording's; 2: it could not be done (usage, unreadable, unwritable, nothing run)."""
 from __future__ import annotations
 
 import argparse
@@ -10,8 +10,10 @@ from typing import NamedTuple, NoReturn, Sequence
 
 from . import __version__, calls, desk as desks
 from .archive import archive
+from .checking import check, compared
 from .desk import MOST_BYTES, Desk, DeskError
 from .explaining import explained, why_refused
+from .faults import RECORDING, SHEET, Kind
 from .files import CouldNot, could_not
 from .naming import judge_suffix, other_names, told_of_maker, with_suffix
 from .sheets import Outcome, in_library, names_of, sheet, sizes
@@ -60,9 +62,9 @@ def read_input(name: str | None) -> bytes:
         raise could_not("read", name if name is not None else "standard input", error) from error
 
 
-def _tell_refusal(name: str | None, text: bytes, outcome: Outcome, desk: Desk) -> None:
+def _tell_refusal(name: str | None, text: bytes, outcome: Outcome, desk: Desk, kind: Kind = RECORDING) -> None:
     """On standard error: which input, the line, and the reason."""
-    told = why_refused(text, outcome, desk)
+    told = why_refused(text, outcome, desk, kind)
     line = f" (line {outcome.place}: {told.line})" if told.line else ""
     say(f"ntekuzino: {shown_name(name) if name is not None else 'standard input'}: {told.why}{line}")
 
@@ -116,6 +118,32 @@ def _explain(args: argparse.Namespace) -> int:
         done, told = explained(read_input(args.file), desk)
     put(f"{told}\n".encode())
     return DONE if done else REFUSED
+
+
+def _against(args: argparse.Namespace, printed: bytes, recording: bytes, desk: Desk) -> bool:
+    """Prints a checked sheet and, as comments, whether it is the recording's; gives whether it is."""
+    learned = in_library(recording, desk)
+    if learned.done:
+        same, told = compared((args.sheet, args.recording), printed, learned.printed)
+    else:
+        same, told = False, [f"{shown_name(args.recording)} has no sheet to hold this against: {learned.text.rstrip()}."]
+    put(printed + "".join(f"# {line}\n" for line in told).encode("utf-8", "replace"))
+    if not learned.done:
+        _tell_refusal(args.recording, recording, learned, desk)
+    return same
+
+
+def _check(args: argparse.Namespace) -> int:
+    text = read_input(args.sheet)
+    recording = None if args.recording is None else read_input(args.recording)
+    with Desk() as desk:
+        outcome = check(text, desk=desk)
+        if outcome.done and recording is not None:
+            return DONE if _against(args, outcome.printed, recording, desk) else REFUSED
+        put(outcome.printed)
+        if not outcome.done:
+            _tell_refusal(args.sheet, text, outcome, desk, SHEET)
+    return DONE if outcome.done else REFUSED
 
 
 class _Refused(Exception):
@@ -234,7 +262,7 @@ def _parser() -> argparse.ArgumentParser:
     parser = argparse.ArgumentParser(
         prog="ntekuzino",
         description="One rule sheet from one recording, by the proved library.",
-        epilog="Status: 0 done, 1 refused, 2 could not (usage, unreadable, unwritable, nothing run).",
+        epilog="Status: 0 done, 1 refused, or not that recording's sheet, 2 could not (usage, unreadable, unwritable, nothing run).",
     )
     parser.add_argument("--version", action="store_true", help="print the version of the package and of the library")
     parts = parser.add_subparsers(metavar="PART", dest="part")
@@ -246,12 +274,16 @@ def _parser() -> argparse.ArgumentParser:
 
     one = part("sheet", "print the sheet of each recording, or `refused C at P`", "ntekuzino sheet recordings/panel.pla", _sheet)
     one.add_argument("files", metavar="FILE", nargs="*", help="recordings; standard input where none is given")
-    one.add_argument("--maker", metavar="TEXT", help="a maker's recording of the panel: its names go into the sheet of a recording that has none")
+    one.add_argument("--maker", metavar="TEXT", help="a maker's recording or sheet of the panel: its names go into the sheet of a recording that has none")
     one.add_argument("--next", metavar="SUFFIX", help="put SUFFIX behind the names of the outputs, for other tools; such a sheet is not read here")
     one.add_argument("--exact", action="store_true", help="keep to the room of the program `rulesheet`: 1,024 words, 24,576 bytes")
 
     one = part("explain", "say in words why a recording is refused", "ntekuzino explain recordings/refused-7.pla", _explain)
     one.add_argument("file", metavar="FILE", nargs="?", help="a recording; standard input where none is given")
+
+    one = part("check", "print a sheet that came back as its one text, or `refused C at P`", "ntekuzino check recordings/panel.out recordings/panel.pla", _check)
+    one.add_argument("sheet", metavar="SHEET", help="a sheet's text, its rows in any order")
+    one.add_argument("recording", metavar="RECORDING", nargs="?", help="a recording: comments tell whether it has this sheet, and which rules differ")
 
     one = part("join", "learn recordings apart, join them, and print the one sheet", "ntekuzino join monday.pla tuesday.pla", _join)
     one.add_argument("files", metavar="FILE", nargs="+", help="recordings of one panel")
@@ -293,5 +325,3 @@ def main(arguments: Sequence[str] | None = None) -> int:
         return 128 + broken.number
     except KeyboardInterrupt:
         return 128 + signal.SIGINT
-
-

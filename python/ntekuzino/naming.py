@@ -6,7 +6,7 @@ from typing import Sequence
 
 from . import calls
 from .desk import MOST_WORDS, Desk
-from .explaining import why_unread
+from .faults import RECORDING, SHEET, sheet_line, why_unread
 from .files import CouldNot
 from .sheets import names_of, sizes
 from .texts import shown_name
@@ -15,18 +15,21 @@ _NAME_LINES = re.compile(rb"\n\.ilb (.+)\n\.ob (.+)\n")
 _SUFFIX = re.compile("[A-Za-z0-9_]+")
 
 
-def has_names(printed: bytes) -> bool:
-    """Whether a printed sheet has name lines."""
-    return _NAME_LINES.search(printed) is not None
+def printed_names(printed: bytes) -> tuple[str, ...]:
+    """The names of a printed sheet, or none."""
+    found = _NAME_LINES.search(printed)
+    return tuple(found[1].decode("ascii").split(" ")) if found else ()
 
 
 # ---- a maker's text
 
 
 def _why_no_names(maker: bytes, named: int, n: int, desk: Desk) -> str:
-    reading = calls.read(maker, MOST_WORDS, desk=desk)
+    # By its type line: the other reader refuses it with 11 there, if not before.
+    kind, read = (SHEET, calls.read_sheet) if sheet_line(maker) else (RECORDING, calls.read)
+    reading = read(maker, MOST_WORDS, desk=desk)
     if reading.code == 11:
-        return f"line {reading.place} breaks the layout. {why_unread(maker, reading.place)[1]}"
+        return f"line {reading.place} breaks the layout. {why_unread(maker, reading.place, kind)[1]}"
     return f"it names {named} of the recording's {n} relays." if named else "it has no lines `.ilb` and `.ob`."
 
 
@@ -34,16 +37,16 @@ def told_of_maker(name: str, maker: bytes, text: bytes, printed: bytes, desk: De
     """What is to be said of a maker's text beside a recording and its printed sheet, which the library does not tell. That it gives no names
     where it was consulted is said by CouldNot: nobody who names a maker's text wants a sheet without names."""
     n, named = sizes(printed)[0], len(names_of(text, desk, maker))
-    if not has_names(printed):
+    if not printed_names(printed):
         raise CouldNot(f"{shown_name(name)} gives no names: {_why_no_names(maker, named, n, desk)}")
     return f"{shown_name(name)} names {named} relays, the recording has {n}; it is given the first names" if named > n else ""
 
 
-# ---- recordings of one panel
+# ---- files of one panel
 
 
 def other_names(files: Sequence[str], named: Sequence[Sequence[str]]) -> str:
-    """Which two of the recordings that have names call a relay differently; nothing where all agree. Their numbers of relays are equal."""
+    """Which two of the files that have names call a relay differently; nothing where all agree. Their numbers of relays are equal."""
     having = [(file, names) for file, names in zip(files, named) if names]
     for file, names in having[1:]:
         for relay, (a, b) in enumerate(zip(having[0][1], names)):

@@ -18,7 +18,7 @@ NO_ROOM = (8, 9, 13)
 
 @dataclass(frozen=True)
 class Outcome:
-    """What is printed for a recording: its sheet, or the line of a refusal with its code and place."""
+    """What is printed for a recording, or for a sheet that is checked: the sheet, or the line of a refusal with its code and place."""
 
     printed: bytes
     code: int
@@ -34,7 +34,8 @@ class Outcome:
         return self.printed.decode("ascii")
 
 
-def _refusal(code: int, place: int, in_library: bool) -> Outcome:
+def refusal(code: int, place: int, in_library: bool) -> Outcome:
+    """The outcome of a refusal."""
     return Outcome(b"refused %d at %d\n" % (code, place), code, place, in_library)
 
 
@@ -53,16 +54,16 @@ def in_program(text: bytes, desk: Desk) -> Outcome:
 def in_library(text: bytes, desk: Desk, maker: bytes = b"") -> Outcome:
     """The same with 65,536 words for the list and for the sheet, and texts of up to 2,097,152 bytes; names are the recording's, or else the maker's."""
     if len(text) > MOST_BYTES:
-        return _refusal(13, 0, True)
+        return refusal(13, 0, True)
     reading = calls.read(text, MOST_WORDS, desk=desk)
     if not reading.done:
-        return _refusal(reading.code, reading.place, True)
+        return refusal(reading.code, reading.place, True)
     learned = calls.learn(reading.n, reading.words, desk=desk)
     if not learned.done:
-        return _refusal(learned.code, learned.place, True)
+        return refusal(learned.code, learned.place, True)
     written = calls.write_sheet(reading.n, learned.piece.sheet, panel=text, maker=maker, desk=desk)
     if not written.done:
-        return _refusal(written.code, written.place, True)
+        return refusal(written.code, written.place, True)
     return Outcome(written.text, 0, 0, True)
 
 
@@ -87,6 +88,6 @@ def sizes(printed: bytes) -> tuple[int, int]:
 
 
 def names_of(text: bytes, desk: Desk, maker: bytes = b"") -> tuple[str, ...]:
-    """The names of a recording, as the library looks them up: one for each of its relays, or none. Else those of the maker's text."""
+    """The names of a recording or a sheet, as the library looks them up: one for each of its relays, or none. Else those of the maker's text."""
     found = (calls.lookup(text, maker, column, desk=desk).name.decode("ascii") for column in itertools.count())
     return tuple(itertools.takewhile(bool, found))

@@ -1,4 +1,4 @@
-"""A recording's text as its lines stand, for those who tell people about it. What is accepted, the proved reader decides."""
+"""A text as its lines stand, a recording's or a sheet's, for those who tell people about it. What is accepted, the proved reader decides."""
 from __future__ import annotations
 
 from dataclasses import dataclass
@@ -22,7 +22,7 @@ class Line:
 
 @dataclass(frozen=True)
 class Row:
-    """A row of an accepted text: its number among the rows, from 1, its line, and the states that it stands for."""
+    """A row of an accepted text: its number among the rows, from 1, its line, its input, and its output, the successor in a recording."""
 
     number: int
     line: int
@@ -31,7 +31,13 @@ class Row:
 
     @property
     def states(self) -> int:
+        """How many states a recording's row stands for."""
         return 1 << self.cells.count("-")
+
+    @property
+    def written(self) -> str:
+        """The row as a sheet writes it."""
+        return f"{self.cells} {self.successor}"
 
 
 def lines(text: bytes) -> list[Line]:
@@ -69,6 +75,11 @@ def on_which(names: Sequence[str], a: str, b: str) -> str:
     """The end of a sentence about two states, written as columns: the relays on which they differ, by name; nothing where these have none."""
     differing = [name for name, x, y in zip(names, a, b) if x != y]
     return f"; they differ on {', '.join(differing)}" if differing else ""
+
+
+def counted(number: int, one: str, many: str) -> str:
+    """A number, with the word for one or for many."""
+    return f"{number:,} {one if number == 1 else many}"
 
 
 def shown(raw: bytes) -> str:

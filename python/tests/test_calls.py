@@ -9,6 +9,7 @@ import sys
 import textwrap
 import threading
 import unittest
+import unittest.mock
 
 from . import helping
 import ntekuzino
@@ -20,6 +21,11 @@ PANEL_WORDS = [7171, 3073, 1024, 4, 4100, 6149, 5122, 2053]
 NAMES = b".ilb PUMP VALVE HEAT\n.ob PUMP VALVE HEAT\n"
 MAKER = b".i 3\n.o 3\n" + NAMES + b".type fr\n.e\n"
 UNTYPED = MAKER.replace(b".type fr\n", b"")
+# The sheet of document 000's panel, its rows moved.
+CAME_BACK = b".i 3\n.o 3\n.type f\n0-- 001 # seen\n-1- 100\n1-1 010\n.e\n"
+NAMED_SHEET = CAME_BACK.replace(b".o 3\n", b".o 3\n" + NAMES)
+TWICE = NAMED_SHEET.replace(b"1-1 010\n", b"-1- 100\n")
+TWO_ONES = NAMED_SHEET.replace(b"1-1 010\n", b"1-1 011\n")
 
 
 class BenchExamples(unittest.TestCase):
@@ -78,12 +84,43 @@ class BenchExamples(unittest.TestCase):
         ran = ntekuzino.run(helping.PANEL, desk=self.desk)
         self.assertEqual((ran.text, ran.sheet[:3]), (helping.PANEL_SHEET, K9))
 
+    def test_read_sheet(self) -> None:
+        """Every number, and every word of the slice."""
+        for text, room, answer in [
+            (CAME_BACK, 5, (0, 0, 3, 3, [*K9, 0, 0])), (CAME_BACK.decode(), 3, (0, 0, 3, 3, K9)), (helping.PANEL_SHEET, 4, (0, 0, 3, 3, [*K9, 0])),
+            (NAMED_SHEET, 3, (0, 0, 3, 3, K9)), (b".i 2\n.o 2\n.type f\n.e", 0, (0, 0, 2, 0, [])), (b".i 2\n.o 2\n.type f\n-- 01\n.e\n", 2, (0, 0, 2, 1, [1048576, 0])),
+            # 8 counts rows as written, and comes before 5.
+            (CAME_BACK, 2, (8, 0, 0, 0, [0, 0])), (TWICE, 2, (8, 0, 0, 0, [0, 0])), (TWICE, 3, (5, 0, 0, 0, [0, 0, 0])), (CAME_BACK, 0, (8, 0, 0, 0, [])),
+            (CAME_BACK.replace(b"1-1 010", b"01- 100"), 3, (5, 0, 0, 0, [0, 0, 0])), (CAME_BACK.replace(b"0-- 001", b"--- 100"), 4, (5, 0, 0, 0, [0, 0, 0, 0])),
+            # 11 comes before both.
+            (TWO_ONES, 1, (11, 8, 0, 0, [0])), (TWICE.replace(b".o 3\n", b".o 3\n.p 2\n"), 1, (11, 3, 0, 0, [0])), (CAME_BACK.replace(b"100", b"000"), 3, (11, 5, 0, 0, [0, 0, 0])),
+            (CAME_BACK.replace(b"100", b"1-0"), 3, (11, 5, 0, 0, [0, 0, 0])), (helping.PANEL, 3, (11, 3, 0, 0, [0, 0, 0])), (b"", 1, (11, 1, 0, 0, [0])),
+            (CAME_BACK.replace(b".type f\n", b""), 3, (11, 3, 0, 0, [0, 0, 0])),
+        ]:
+            got = ntekuzino.read_sheet(text, [7] * room, desk=self.desk)
+            self.assertEqual((got.code, got.place, got.n, got.count, got.list), answer, (text, room))
+            self.assertEqual((got.done, got.words), (answer[0] == 0, answer[4][: answer[3]]))
+        reading = ntekuzino.read(CAME_BACK, [7], desk=self.desk)
+        self.assertEqual((reading.code, reading.place, reading.list), (11, 3, [0]))
+
+    def test_sheets_written_are_read(self) -> None:
+        """The same words and the same names, with a maker's names in between."""
+        for n, words, panel in [(3, K9, b""), (3, K9, MAKER), (3, K9, NAMED_SHEET), (1, [], b""), (10, [9437185, 9438208], helping.recording("names-of-sixteen"))]:
+            text = ntekuzino.write_sheet(n, words, panel=panel, desk=self.desk).text
+            reading = ntekuzino.read_sheet(text, desk=self.desk)
+            self.assertEqual((reading.code, reading.n, reading.words), (0, n, words))
+            names = [ntekuzino.lookup(one, b"", 0, desk=self.desk).name for one in (text, panel or helping.PANEL)]
+            self.assertEqual(names[0], names[1])
+            self.assertEqual(ntekuzino.write_sheet(n, reading.words, panel=text, desk=self.desk).text, text)
+
     def test_names(self) -> None:
         named = helping.PANEL_SHEET.replace(b".o 3\n", b".o 3\n" + NAMES)
         for panel, maker, text in [
             (helping.PANEL, MAKER, named), (MAKER, b"junk", named), (MAKER.decode(), "", named), (helping.recording("names-no-rows"), MAKER, helping.PANEL_SHEET),
             (helping.PANEL, b"junk", helping.PANEL_SHEET), (b"junk", MAKER, helping.PANEL_SHEET), (b"", MAKER, helping.PANEL_SHEET),
             (UNTYPED, MAKER, helping.PANEL_SHEET), (helping.PANEL, UNTYPED, helping.PANEL_SHEET),
+            (NAMED_SHEET, b"junk", named), (CAME_BACK, MAKER, named), (CAME_BACK, NAMED_SHEET, named), (TWICE, b"", named), (TWO_ONES, MAKER, helping.PANEL_SHEET),
+            (helping.PANEL, TWO_ONES, helping.PANEL_SHEET),
         ]:
             self.assertEqual(ntekuzino.write_sheet(3, K9, panel=panel, maker=maker, desk=self.desk).text, text, (panel, maker))
         refused = ntekuzino.write_sheet(3, K9, panel=MAKER, out=len(named) - 1, desk=self.desk)
@@ -98,12 +135,17 @@ class BenchExamples(unittest.TestCase):
             (MAKER, b"junk", 1, ntekuzino.LookedUp(0, 20, 5, b"VALVE")), (helping.PANEL.decode(), MAKER.decode(), 1, ntekuzino.LookedUp(1, 20, 5, b"VALVE")),
             (MAKER, MAKER, 3, nothing), (MAKER, b"", 2**64 - 1, nothing), (helping.PANEL, helping.PANEL, 0, nothing), (b"", MAKER, 0, nothing), (helping.PANEL, b"junk", 0, nothing),
             (UNTYPED, MAKER, 0, nothing), (helping.PANEL, UNTYPED, 0, nothing),
+            # A sheet is as good as a recording, also where reading it gives 5; one that both readers refuse with 11 is not.
+            (NAMED_SHEET, b"", 1, ntekuzino.LookedUp(0, 20, 5, b"VALVE")), (helping.PANEL, NAMED_SHEET, 2, ntekuzino.LookedUp(1, 26, 4, b"HEAT")),
+            (CAME_BACK, MAKER, 0, ntekuzino.LookedUp(1, 15, 4, b"PUMP")), (TWICE, b"", 2, ntekuzino.LookedUp(0, 26, 4, b"HEAT")), (NAMED_SHEET, MAKER, 3, nothing),
+            (TWO_ONES, MAKER, 0, nothing), (helping.PANEL, TWO_ONES, 0, nothing), (CAME_BACK, CAME_BACK, 0, nothing),
         ]:
             self.assertEqual(ntekuzino.lookup(panel, maker, column, desk=self.desk), found, (panel, maker, column))
 
     def test_largest_slices(self) -> None:
         text = b"#" * desks.MOST_BYTES
         self.assertEqual(ntekuzino.read(text, desk=self.desk).place, 2)
+        self.assertEqual(ntekuzino.read_sheet(text, desk=self.desk).place, 2)
         with self.assertRaises(ValueError):
             ntekuzino.read(text + b"#", desk=self.desk)
         with self.assertRaises(ValueError):
@@ -183,11 +225,8 @@ class Failures(unittest.TestCase):
 
     def test_told_by_the_environment(self) -> None:
         told = says(b"", "raise SystemExit(3)")
-        os.environ["NTEKUZINO_DESK"] = " ".join(shlex.quote(word) for word in told)
-        try:
+        with unittest.mock.patch.dict(os.environ, NTEKUZINO_DESK=" ".join(shlex.quote(word) for word in told)):
             self.assertEqual(desks.command(), told)
-        finally:
-            del os.environ["NTEKUZINO_DESK"]
 
     def test_another_process(self) -> None:
         with Desk() as desk:

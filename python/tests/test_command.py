@@ -2,7 +2,9 @@
 from __future__ import annotations
 
 import os
+import re
 import subprocess
+import textwrap
 import unittest
 
 from . import helping
@@ -138,15 +140,15 @@ class Ntekuzino(InFolder):
 
     def test_help(self) -> None:
         self.assertEqual(ran(NTEKUZINO, "--help").returncode, 0)
-        for part in ("sheet", "explain", "join", "apply", "archive"):
+        for part in ("sheet", "explain", "check", "join", "apply", "archive"):
             done = ran(NTEKUZINO, part, "--help")
             self.assertEqual(done.returncode, 0)
             self.assertIn(b"Example: ntekuzino " + part.encode(), done.stdout)
-        self.assertRegex(ran(NTEKUZINO, "--version").stdout, rb"^package 3\.\d+\.\d+, library ntekuzino 3\.\d+\.\d+ [0-9a-f]{64}\n$")
+        self.assertRegex(ran(NTEKUZINO, "--version").stdout, rb"^package 4\.\d+\.\d+, library ntekuzino 4\.\d+\.\d+ [0-9a-f]{64}\n$")
 
     def test_could_not(self) -> None:
         self.put("folder/file", b"")
-        for words in ([], ["frob"], ["sheet", "nowhere"], ["sheet", "folder"], ["sheet", "--frob"], ["explain", "a", "b"], ["join"], ["apply", "x"], ["archive", "a"], ["archive", "nowhere", "out"]):
+        for words in ([], ["frob"], ["sheet", "nowhere"], ["sheet", "folder"], ["sheet", "--frob"], ["explain", "a", "b"], ["check"], ["check", "nowhere"], ["check", "folder"], ["check", RECORDINGS / "panel.out", "nowhere"], ["check", "a", "b", "c"], ["join"], ["apply", "x"], ["archive", "a"], ["archive", "nowhere", "out"]):
             done = ran(NTEKUZINO, *words, cwd=self.folder)
             self.assertEqual((done.returncode, done.stdout), (2, b""), words)
             self.assertNotIn(b"Traceback", done.stderr, words)
@@ -168,6 +170,95 @@ class Ntekuzino(InFolder):
             done = ran(NTEKUZINO, "sheet", RECORDINGS / "panel.pla", env={**os.environ, "NTEKUZINO_DESK": desk})
             self.assertEqual((done.returncode, done.stdout), (2, b""), desk)
             self.assertIn(b"ntekuzino: the desk", done.stderr)
+
+
+class Check(InFolder):
+    """A sheet that came back: its one text, and whether it is a recording's."""
+
+    def setUp(self) -> None:
+        super().setUp()
+        self.came_back = b".i 3\n.o 3\n.type f\n0-- 001\n1-1 010 # seen\n-1- 100\n.e\n"
+        self.put("back", self.came_back)
+        self.put("panel.pla", PANEL)
+
+    def check(self, *words: object) -> tuple[int, bytes, bytes]:
+        done = ran(NTEKUZINO, "check", *words, cwd=self.folder)
+        return done.returncode, done.stdout, done.stderr
+
+    def test_its_one_text(self) -> None:
+        self.assertEqual(self.check("back"), (0, PANEL_SHEET, b""))
+        self.put("named", with_names(self.came_back))
+        self.assertEqual(self.check("named"), (0, with_names(PANEL_SHEET), b""))
+        for written in (RECORDINGS / "panel.out", RECORDINGS / "dairy-tank.out"):
+            self.assertEqual(self.check(written), (0, written.read_bytes(), b""))
+
+    def test_refused(self) -> None:
+        for text, line, why in [
+            (PANEL, b"refused 11 at 3", b"The type of a sheet is `f`, not `fr`. A text of `.type fr` is a recording, not a sheet: `ntekuzino sheet` prints its sheet. (line 3: .type fr)"),
+            (self.came_back.replace(b"0-- 001", b"-1- 100"), b"refused 5 at 0", b"Rows 1 and 3 (lines 4 and 6) are one rule, `-1- 100`; a sheet has each rule once."),
+            (b".i 1\n.o 1\n.type f\n" + b"0 1\n" * 65537 + b".e\n", b"refused 8 at 0", b"The text has 65,537 rows; there is room for 65,536."),
+            (b"#" * 2_097_153, b"refused 13 at 0", b"The text has more than 2,097,152 bytes; there is room for 2,097,152."),
+        ]:
+            self.put("bad", text)
+            for words in (["bad"], ["bad", "panel.pla"]):
+                self.assertEqual(self.check(*words), (1, line + b"\n", b"ntekuzino: bad: " + why + b"\n"))
+
+    def test_the_recordings_own(self) -> None:
+        self.assertEqual(self.check("back", "panel.pla"), (0, PANEL_SHEET + b"# This is the sheet of panel.pla.\n", b""))
+        # Names on one side alone do not part them; nor does the room of the program.
+        self.put("named.pla", with_names(PANEL))
+        self.put("named", with_names(self.came_back))
+        for sheet, recording, printed in [("back", "named.pla", PANEL_SHEET), ("named", "panel.pla", with_names(PANEL_SHEET)), ("named", "named.pla", with_names(PANEL_SHEET))]:
+            self.assertEqual(self.check(sheet, recording), (0, printed + f"# This is the sheet of {recording}.\n".encode(), b""))
+        status, printed, said = self.check(RECORDINGS / "cell-cycle.out", RECORDINGS / "cell-cycle-shuffled.pla")
+        self.assertEqual((status, printed.splitlines()[-1], said), (0, f"# This is the sheet of {RECORDINGS}/cell-cycle-shuffled.pla.".encode(), b""))
+
+    def test_other_rules(self) -> None:
+        self.put("edited", self.came_back.replace(b"0-- 001", b"0-1 001\n-11 001\n10- 010").replace(b"1-1 010", b"1-1 100"))
+        status, printed, said = self.check("edited", "panel.pla")
+        rows = b"-1- 100\n1-1 100\n10- 010\n0-1 001\n-11 001\n"
+        sheet = b".i 3\n.o 3\n.type f\n.p 5\n" + rows + b".e\n"
+        told = (
+            b"# This is not the sheet of panel.pla: 2 rules are missing, 4 are too many.\n# missing: 1-1 010\n# missing: 0-- 001\n"
+            b"# too many: 1-1 100\n# too many: 10- 010\n# too many: 0-1 001\n# too many: -11 001\n"
+        )
+        self.assertEqual((status, printed, said), (1, sheet + told, b""))
+        # It is still the same sheet.
+        self.put("printed", printed)
+        self.assertEqual(self.check("printed"), (0, sheet, b""))
+        self.put("fewer", b".i 3\n.o 3\n.type f\n0-- 001\n1-1 010\n.e\n")
+        self.assertTrue(self.check("fewer", "panel.pla")[1].endswith(b".e\n# This is not the sheet of panel.pla: 1 rule is missing, 0 are too many.\n# missing: -1- 100\n"))
+        self.put("more", self.came_back.replace(b".e\n", b"000 010\n.e\n"))
+        self.assertTrue(self.check("more", "panel.pla")[1].endswith(b".e\n# This is not the sheet of panel.pla: 0 rules are missing, 1 is too many.\n# too many: 000 010\n"))
+
+    def test_another_panel(self) -> None:
+        self.put("two.pla", b".i 2\n.o 2\n.type fr\n.e\n")
+        self.assertEqual(self.check("back", "two.pla"), (1, PANEL_SHEET + b"# This is not the sheet of two.pla: it has 3 relays, the recording 2.\n", b""))
+        self.put("named", with_names(self.came_back))
+        self.put("other.pla", with_names(PANEL, b".ilb PUMP FLOAT HEAT\n.ob PUMP FLOAT HEAT\n"))
+        told = b"# This is not the sheet of other.pla: named and other.pla call relay 1 differently: VALVE in one, FLOAT in the other.\n"
+        self.assertEqual(self.check("named", "other.pla"), (1, with_names(PANEL_SHEET) + told, b""))
+
+    def test_a_refused_recording(self) -> None:
+        self.put("bad\n.pla", PANEL.replace(b"110 100", b"111 100"))
+        told = b"# bad\\x0a.pla has no sheet to hold this against: refused 7 at 1.\n"
+        why = b"ntekuzino: bad\\x0a.pla: Rows 1 and 2 (lines 4 and 5) disagree on state 111: one says that 110 follows, the other 100.\n"
+        self.assertEqual(self.check("back", "bad\n.pla"), (1, PANEL_SHEET + told, why))
+        status, printed, said = self.check("back", "back")
+        self.assertEqual((status, printed), (1, PANEL_SHEET + b"# back has no sheet to hold this against: refused 11 at 3.\n"))
+        self.assertIn(b"A text of `.type f` is a sheet, not a recording", said)
+
+    def test_readme(self) -> None:
+        """The run that README.md shows, line for line."""
+        told = textwrap.dedent(re.search(r"(?m)^    \$ cat back\.pla\n(?:    .*\n)+", (ROOT / "README.md").read_text())[0])  # type: ignore[index]
+        text, printed = told.removeprefix("$ cat back.pla\n").split("$ ./ntekuzino check back.pla recordings/panel.pla\n")
+        self.put("back.pla", text.encode())
+        self.put("recordings/panel.pla", PANEL)
+        self.assertEqual(self.check("back.pla", "recordings/panel.pla"), (1, printed.encode(), b""))
+
+    def test_lost_output(self) -> None:
+        done = ran("sh", "-c", f"{NTEKUZINO} check {RECORDINGS}/panel.out >/dev/full")
+        self.assertEqual((done.returncode, done.stderr), (2, b"ntekuzino: cannot write to standard output: No space left on device\n"))
 
 
 class Names(InFolder):
@@ -194,6 +285,10 @@ class Names(InFolder):
             self.assertEqual(self.sheet("--maker", maker, *words, panel), with_names(PANEL_SHEET))
         done = ran(NTEKUZINO, "sheet", "--maker", maker, input=PANEL)
         self.assertEqual((done.returncode, done.stdout), (0, with_names(PANEL_SHEET)))
+        # A maker's sheet is as good as a recording, be it no good sheet.
+        for text in (PANEL_SHEET, PANEL_SHEET.replace(b".p 3\n", b"").replace(b"1-1 010", b"-1- 100")):
+            self.put("maker's sheet", with_names(text))
+            self.assertEqual(self.sheet("--maker", self.folder / "maker's sheet", panel), with_names(PANEL_SHEET))
         # A recording that is refused is refused as ever.
         done = ran(NTEKUZINO, "sheet", "--maker", self.put("junk", b"junk"), RECORDINGS / "refused-7.pla")
         self.assertEqual((done.returncode, done.stdout), (1, b"refused 7 at 1\n"))
@@ -209,6 +304,8 @@ class Names(InFolder):
             (with_names(PANEL, b".p 1\n"), b"line 3 breaks the layout. It says 1, but the text has 8 rows."),
             (with_names(PANEL).replace(b".type fr\n", b""), b"line 5 breaks the layout. No type line stands before line 5, the first row. " + WHY_TYPED),
             (PANEL, b"it has no lines `.ilb` and `.ob`."),
+            (PANEL_SHEET, b"it has no lines `.ilb` and `.ob`."),
+            (with_names(PANEL_SHEET).replace(b"1-1 010", b"1-1 011"), b"line 8 breaks the layout. The output has 2 `1`s, in columns 1 and 2; a row is a rule for one relay: write a row for each."),
             (helping.recording("names"), b"it names 2 of the recording's 3 relays."),
         ]:
             self.put("maker", text)
@@ -282,8 +379,8 @@ class FirstBuild(InFolder):
         done = ran(self.folder / "clone/tools/program", "--built", "rulesheet", env=env)
         self.assertEqual((done.returncode, done.stdout), (0, b""))
         # The program, what crates.txt says it needs, and what that needs; the kit's libraries are not ours to prove.
-        self.assertIn(b"proving 19 crates and building rulesheet", done.stderr)
-        self.assertIn(b"proving: 3 of 19 crates, ", done.stderr)
+        self.assertIn(b"proving 20 crates and building rulesheet", done.stderr)
+        self.assertIn(b"proving: 3 of 20 crates, ", done.stderr)
         self.assertNotIn(b"noise", done.stderr)
         self.assertIn("noise", (self.folder / "clone/target/prove-rulesheet.log").read_text())
         self.assertEqual(ran(self.folder / "clone/tools/program", "--built", "rulesheet", env=env).stderr, b"")

@@ -5,8 +5,9 @@ import random
 import unittest
 
 from . import helping
-from ntekuzino import Desk, texts
-from ntekuzino.explaining import explained, line_fault, why_refused
+from ntekuzino import Desk, check, texts
+from ntekuzino.explaining import explained, why_refused
+from ntekuzino.faults import RECORDING, SHEET, Kind, line_fault
 from ntekuzino.sheets import Outcome, in_library, in_program, sheet
 
 HEAD = b".i 3\n.o 3\n.type fr\n"
@@ -31,7 +32,10 @@ FAULTS = [
     (b".i\n", "refused 11 at 1", "`.i` has 0 values"),
     (b".i 3 4\n", "refused 11 at 1", "`.i` has 2 values"),
     (b".type fd\n", "refused 11 at 1", "The type of a recording is `fr`, not `fd`. In a text of `.type fd` a `0` of an output says nothing"),
-    (b".type f\n", "refused 11 at 1", "a sheet, not a recording"),
+    (b".type f\n", "refused 11 at 1", "A text of `.type f` is a sheet, not a recording: `ntekuzino check` reads it."),
+    (helping.PANEL_SHEET, "refused 11 at 3", "A text of `.type f` is a sheet, not a recording: `ntekuzino check` reads it."),
+    (b"11- 100\n.type f\n", "refused 11 at 1", "Line 2 says `.type f`: of a sheet `ntekuzino check` tells what is wrong."),
+    (helping.PANEL_SHEET.replace(b"\n", b"\r\n"), "refused 11 at 1", "Line 3 says `.type f`"),
     (HEAD + b".p 01\n", "refused 11 at 4", "no leading zeros"),
     (HEAD + b".p x\n", "refused 11 at 4", "`x` is no number"),
     (HEAD + b".p 2\n111 110\n.e\n", "refused 11 at 4", "It says 2, but the text has 1 row"),
@@ -51,7 +55,7 @@ FAULTS = [
     (HEAD + b"111 1-0\n", "refused 11 at 4", "Column 1 of the output is `-`"),
     (HEAD + b"12- 110\n", "refused 11 at 4", "Column 1 of the input is `2`"),
     (HEAD + b"111\n", "refused 11 at 4", "two fields, input and output; this one has 1"),
-    (HEAD + b"111 110 110\n", "refused 11 at 4", "this one has 3"),
+    (HEAD + b"111 110 110\n", "refused 11 at 4", "this one has 3. A comment begins with `#`."),
     (HEAD + b".e\n111 110\n", "refused 11 at 5", "After the end mark, line 4"),
     (HEAD + b"111\xa0110\n", "refused 11 at 4", "Byte 4 of the line is 160 (hexadecimal a0)"),
     (HEAD + b"\x00\n", "refused 11 at 4", "Byte 1 of the line is 0"),
@@ -87,6 +91,36 @@ FAULTS = [
     (b".i 10\n.o 10\n.type fr\n" + b"---------- 0000000000\n" * 65 + b".e\n", "refused 8 at 0", "The rows stand for 66,560 states"),
 ]
 
+SHEET_HEAD = b".i 3\n.o 3\n.type f\n"
+SHEET_NAMED = SHEET_HEAD + b".ilb PUMP VALVE HEAT\n.ob PUMP VALVE HEAT\n"
+
+# The same of sheets.
+SHEET_FAULTS = [
+    (b"", "refused 11 at 1", "The text is empty. A sheet ends with a line `.e` or `.end`."),
+    (SHEET_HEAD + b"1-1 011\n", "refused 11 at 4", "The output has 2 `1`s, in columns 1 and 2; a row is a rule for one relay: write a row for each."),
+    (SHEET_HEAD + b"1-1 111\n", "refused 11 at 4", "The output has 3 `1`s, in columns 0, 1 and 2;"),
+    (SHEET_HEAD + b"1-1 000\n", "refused 11 at 4", "The output has no `1`; a row is a rule for one relay"),
+    (SHEET_HEAD + b"1-1 1-0\n", "refused 11 at 4", "Column 1 of the output is `-`; only `0`, `1` can stand there."),
+    (SHEET_HEAD + b"1-1 1100\n", "refused 11 at 4", "4 output columns"),
+    (SHEET_HEAD + b"1- 100\n", "refused 11 at 4", "2 input columns"),
+    (helping.PANEL, "refused 11 at 3", "The type of a sheet is `f`, not `fr`. A text of `.type fr` is a recording, not a sheet: `ntekuzino sheet` prints its sheet."),
+    (b".type fd\n", "refused 11 at 1", "The type of a sheet is `f`, not `fd`."),
+    (b".i 3\n.o 3\n-1- 100\n.type f\n", "refused 11 at 3", "No type line stands before line 3, the first row. A sheet has `.type f` among its headers; without the line the text may be a recording."),
+    (b".i 3\n.o 3\n.e\n", "refused 11 at 3", "No type line stands before line 3, the end mark. A sheet has"),
+    (SHEET_HEAD + b".p 2\n-1- 100\n.e\n", "refused 11 at 4", "It says 2, but the text has 1 row."),
+    (SHEET_HEAD + b".phase 111\n", "refused 11 at 4", "`.phase` is no header of a sheet"),
+    (SHEET_HEAD + b".ilb A B C\n.e\n", "refused 11 at 5", "`.ilb` in line 4 has no `.ob` beside it before the end mark; a sheet has both or neither."),
+    (SHEET_HEAD + b".ilb A B C\n.ob A_n B_n C_n\n", "refused 11 at 5", "`.ilb` in line 4 has other names: the first is `A` there and `A_n` here."),
+    (SHEET_HEAD.replace(b"\n", b"\r\n"), "refused 11 at 1", "ends with CR, as Windows writes line ends (3 lines do)"),
+    (SHEET_HEAD + b"-1- 100\n\n0-- 001\n-1- 100\n.e\n", "refused 5 at 0", "Rows 1 and 3 (lines 4 and 7) are one rule, `-1- 100`; a sheet has each rule once."),
+    (SHEET_HEAD + b"-1- 100\n01- 010\n# x\n01- 100\n.e\n", "refused 5 at 0", "Row 3 (line 7), `01- 100`, has all conditions of row 1 (line 4), `-1- 100`, and more: relay 0 pulls in by the latter already"),
+    (SHEET_NAMED + b"01- 001\n0-- 001\n.e\n", "refused 5 at 0", "Row 1 (line 6), `01- 001`, has all conditions of row 2 (line 7), `0-- 001`, and more: HEAT pulls in by the latter already"),
+    (SHEET_HEAD + b"1-0 010\n--- 010\n.e\n", "refused 5 at 0", "Row 1 (line 4), `1-0 010`, has all conditions of row 2 (line 5), `--- 010`, and more"),
+    (b".i 1\n.o 1\n.type f\n" + b"1 1\n" * 65536 + b".e\n", "refused 5 at 0", "Rows 1 and 2 (lines 4 and 5) are one rule, `1 1`"),
+    (b".i 1\n.o 1\n.type f\n" + b"1 1\n" * 65537 + b".e\n", "refused 8 at 0", "The text has 65,537 rows; there is room for 65,536."),
+    (b"#" * 2_097_153, "refused 13 at 0", "The text has more than 2,097,152 bytes; there is room for 2,097,152."),
+]
+
 
 def damaged(text: bytes, chance: random.Random) -> bytes:
     """A text with bytes put in, taken out or changed, and with lines that change places, are gone or stand twice."""
@@ -113,6 +147,18 @@ class Explained(unittest.TestCase):
                 self.assertFalse(done)
                 self.assertEqual(told.splitlines()[0], line)
                 self.assertIn(words, told)
+
+    def test_every_fault_of_a_sheet(self) -> None:
+        for text, line, words in SHEET_FAULTS:
+            with self.subTest(words):
+                outcome = check(text, desk=self.desk)
+                self.assertEqual(outcome.printed.decode(), line + "\n")
+                self.assertIn(words, why_refused(text, outcome, self.desk, SHEET).why)
+
+    def test_a_recording_is_no_sheet(self) -> None:
+        """`explain` points to `check` where a type line says `f`, and nowhere else."""
+        for text in (helping.PANEL + b"junk\n", b".i 3\n.o 3\n# .type f\n.e\n", b".type fr\n.type f\n", b".type fd\n"):
+            self.assertNotIn("ntekuzino check", explained(text, self.desk)[1])
 
     def test_stored_refusals(self) -> None:
         for path in sorted(helping.RECORDINGS.glob("*.pla")):
@@ -144,11 +190,28 @@ class Explained(unittest.TestCase):
             if not outcome.done:
                 refused += 1
                 with self.subTest(text):
-                    self.assert_explained(text, outcome)
+                    self.assert_explained(text, outcome, RECORDING)
         self.assertGreater(refused, 1000)
 
-    def assert_explained(self, text: bytes, outcome: Outcome) -> None:
-        told = why_refused(text, outcome, self.desk)
+    def test_damaged_sheets(self) -> None:
+        """The same of sheets; some are still good, and some are well laid out and no good sheets."""
+        chance = random.Random(3)
+        whole = [helping.PANEL_SHEET, SHEET_NAMED + b"1-1 010\n-1- 010 # c\n.e\n", b".ob A B_1 # c\n.i 2\n.ilb\tA  B_1\n.o 2\n.type f\n0- 01\n-1 01\n1- 10\n.end\n"]
+        whole.append(helping.stored("dairy-tank").replace(b".p 40\n", b""))
+        codes = []
+        for _ in range(1500):
+            text = damaged(chance.choice(whole), chance)
+            outcome = check(text, desk=self.desk)
+            codes.append(outcome.code)
+            if not outcome.done:
+                with self.subTest(text):
+                    self.assert_explained(text, outcome, SHEET)
+        self.assertEqual(set(codes), {0, 5, 11})
+        self.assertGreater(codes.count(11), 750)
+        self.assertGreater(codes.count(5), 20)
+
+    def assert_explained(self, text: bytes, outcome: Outcome, kind: Kind) -> None:
+        told = why_refused(text, outcome, self.desk, kind)
         self.assertTrue(told.why)
         if outcome.code != 11:
             return
@@ -157,7 +220,7 @@ class Explained(unittest.TestCase):
         for line in lines[: outcome.place - 1]:
             # The number after `.p` is compared last.
             if line.fields[:1] != (b".p",):
-                self.assertEqual(line_fault(lines, line.number), "", line.number)
+                self.assertEqual(line_fault(lines, line.number, kind), "", line.number)
 
 
 class Rooms(unittest.TestCase):

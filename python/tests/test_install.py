@@ -78,7 +78,7 @@ class Installed(unittest.TestCase):
         symbols = ran(tool, "-D", "--defined-only", self.prefix / "lib/libntekuzino.so").stdout.decode().split()
         functions = {name for name in symbols if name.startswith("ntekuzino_")}
         header = (self.prefix / "include/ntekuzino.h").read_text()
-        self.assertGreaterEqual(len(functions), 11)
+        self.assertGreaterEqual(len(functions), 12)
         for name in functions:
             self.assertIn(f" {name}(", header)
         self.assertEqual({name for name in symbols[2::3]}, functions)

@@ -4,7 +4,7 @@ use std::io::{self, Read, Write};
 
 use crate::calls::{self, Answer, Lent};
 use crate::session::{self, Session};
-use crate::text::{self, Part};
+use crate::text::{self, Part, Reading};
 
 /// What a field of a request may hold.
 #[derive(Clone, Copy, Debug, PartialEq, Eq)]
@@ -65,6 +65,7 @@ pub const READ: u64 = 8;
 pub const WRITE: u64 = 9;
 pub const RUN: u64 = 10;
 pub const LOOKUP: u64 = 11;
+pub const READ_SHEET: u64 = 12;
 
 const W: Width = Width::Word;
 const C: Width = Width::Count;
@@ -73,7 +74,7 @@ const WORDS_MUT: Slice = Slice { width: Width::Word, mutable: true };
 const BYTES: Slice = Slice { width: Width::Byte, mutable: false };
 const BYTES_MUT: Slice = Slice { width: Width::Byte, mutable: true };
 
-pub static SHAPES: [Shape; 11] = [
+pub static SHAPES: [Shape; 12] = [
     Shape { call: FRESH, name: "fresh", numbers: &[W], slices: &[WORDS_MUT], answers: 6 },
     Shape {
         call: TAKE,
@@ -127,6 +128,13 @@ pub static SHAPES: [Shape; 11] = [
         answers: 1,
     },
     Shape { call: LOOKUP, name: "lookup", numbers: &[C], slices: &[BYTES, BYTES], answers: 3 },
+    Shape {
+        call: READ_SHEET,
+        name: "read sheet",
+        numbers: &[],
+        slices: &[BYTES, WORDS_MUT],
+        answers: 4,
+    },
 ];
 
 /// The shape of a call number.
@@ -247,10 +255,11 @@ impl Request {
             APPLY => self.answer_apply(),
             SESSION_START => self.answer_session_start(),
             SESSION_TAKE => self.answer_session_take(),
-            READ => self.answer_read(),
+            READ => self.answer_read(text::read),
             WRITE => self.answer_write(),
             RUN => self.answer_run(),
             LOOKUP => self.answer_lookup(),
+            READ_SHEET => self.answer_read(text::read_sheet),
             _ => unreachable!("a shape has one of these calls"),
         }
     }
@@ -342,11 +351,12 @@ impl Request {
         [numbers, widened(&book), widened(&sheet)].concat()
     }
 
-    fn answer_read(&self) -> Vec<u64> {
-        let mut list = self.lent_words(1);
-        let reading = text::read(&self.lent_bytes(0), &mut list);
+    /// By either reader.
+    fn answer_read(&self, reader: impl Fn(&[u8], &mut [u32]) -> Reading) -> Vec<u64> {
+        let mut words = self.lent_words(1);
+        let reading = reader(&self.lent_bytes(0), &mut words);
         let numbers = vec![reading.code, reading.place, u64::from(reading.n), reading.count];
-        [numbers, widened(&list)].concat()
+        [numbers, widened(&words)].concat()
     }
 
     fn answer_write(&self) -> Vec<u64> {

@@ -1,12 +1,41 @@
-//! The layout of a recording text: which texts are accepted, what they record and where their names
-//! stand, and the line that is faulty in the others.
+//! The layout of a recording text and of a sheet text: which texts are accepted, what they hold and
+//! where their names stand, and the line that is faulty in the others.
 
 use std::ops::Range;
 
-use crate::panel::{state_count, Transition, MOST_RELAYS};
+use crate::panel::{state_count, Body, Rule, Transition, MOST_RELAYS};
 
 /// How many characters a name may have.
 pub const LONGEST_NAME: usize = 16;
+
+/// A text is read as one of two kinds. They differ in what single lines may say, in nothing else.
+#[derive(Clone, Copy, Debug, PartialEq, Eq, PartialOrd, Ord)]
+pub enum Kind {
+    Recording,
+    Sheet,
+}
+
+impl Kind {
+    pub const BOTH: [Kind; 2] = [Kind::Recording, Kind::Sheet];
+
+    /// What stands in the type line that a text of the kind must have.
+    fn type_word(self) -> &'static [u8] {
+        match self {
+            Kind::Recording => b"fr",
+            Kind::Sheet => b"f",
+        }
+    }
+
+    pub fn type_line(self) -> Vec<u8> {
+        [b".type ", self.type_word()].concat()
+    }
+
+    /// Output characters of a row: a successor, or the one head of a rule.
+    fn is_output(self, field: &[u8]) -> bool {
+        let ones = field.iter().filter(|byte| **byte == b'1').count();
+        is_of(field, b"01") && (self == Kind::Recording || ones == 1)
+    }
+}
 
 /// What a line says by itself. Whether it may stand where it stands is for `accepted` to say.
 #[derive(Clone, Debug, PartialEq, Eq)]
@@ -20,7 +49,7 @@ enum Line<'a> {
     InputNames(Vec<&'a [u8]>),
     /// `.ob` with names.
     OutputNames(Vec<&'a [u8]>),
-    /// `.type fr`.
+    /// The type line of the kind that the text is read as.
     Type,
     /// `.p` with a number, kept as it is written because it may have any length.
     Rows(&'a [u8]),
@@ -58,7 +87,7 @@ fn fields(line: &[u8]) -> Vec<(usize, &[u8])> {
     fields
 }
 
-fn line_of(line: &[u8]) -> Line<'_> {
+fn line_of(kind: Kind, line: &[u8]) -> Line<'_> {
     let fields: Vec<&[u8]> = fields(line).into_iter().map(|(_, field)| field).collect();
     match fields[..] {
         [] => Line::Blank,
@@ -66,10 +95,12 @@ fn line_of(line: &[u8]) -> Line<'_> {
         [b".o", number] => size(number).map_or(Line::Fault, Line::Outputs),
         [b".ilb", ref names @ ..] if are_names(names) => Line::InputNames(names.to_vec()),
         [b".ob", ref names @ ..] if are_names(names) => Line::OutputNames(names.to_vec()),
-        [b".type", b"fr"] => Line::Type,
+        [b".type", word] if word == kind.type_word() => Line::Type,
         [b".p", number] if is_number(number) => Line::Rows(number),
         [b".e"] | [b".end"] => Line::End,
-        [input, output] if is_of(input, b"01-") && is_of(output, b"01") => Line::Row(input, output),
+        [input, output] if is_of(input, b"01-") && kind.is_output(output) => {
+            Line::Row(input, output)
+        }
         _ => Line::Fault,
     }
 }
@@ -153,7 +184,7 @@ fn only(lines: &[Line], value: impl Fn(&Line) -> Option<u32>) -> Option<u32> {
 /// The lines begin an accepted text.
 ///
 /// If any lines to follow make an accepted text, then so do no lines at all (the end mark stands
-/// already), or else the missing ones of `.i n` and `.o n` for the right n and of `.type fr`, the
+/// already), or else the missing ones of `.i n` and `.o n` for the right n and the type line, the
 /// missing one of two name lines if one stands, which must repeat its names, and `.e`: rows and
 /// other headers to follow may be left out, and so may both name lines. So these completions are
 /// tried, for each n.
@@ -216,9 +247,10 @@ fn line_number(lines_before: usize) -> u64 {
     lines_before as u64 + 1
 }
 
-/// The size and the lines of a text that reading does not refuse; or the faulty line.
-fn judged(text: &[u8]) -> Result<(u32, Vec<Line<'_>>), u64> {
-    let lines: Vec<Line> = lines(text).into_iter().map(|(_, line)| line_of(line)).collect();
+/// The size and the lines of a text that the reader of the kind does not refuse with 11; or the
+/// faulty line.
+fn judged(kind: Kind, text: &[u8]) -> Result<(u32, Vec<Line<'_>>), u64> {
+    let lines: Vec<Line> = lines(text).into_iter().map(|(_, line)| line_of(kind, line)).collect();
     let passed = lines_before_fault(&lines);
     // If every line passes and the text is not accepted, the end mark is missing; then the place
     // is the number after the last line, which is what passes plus 1 in either case.
@@ -230,16 +262,24 @@ fn judged(text: &[u8]) -> Result<(u32, Vec<Line<'_>>), u64> {
 
 /// What a text records: the size and the words of all rows in order; or the faulty line.
 pub fn recording(text: &[u8]) -> Result<(u32, Vec<u32>), u64> {
-    let (n, lines) = judged(text)?;
+    let (n, lines) = judged(Kind::Recording, text)?;
     Ok((n, lines.iter().flat_map(|line| row_words(n, line)).collect()))
 }
 
-/// Where the names of a text stand in it, column by column, as its `.ilb` line has them; none if
-/// it has no names; or the faulty line.
-pub fn name_places(text: &[u8]) -> Result<Vec<Range<usize>>, u64> {
-    judged(text)?;
+/// What a sheet text lists: the size and the word of each row as written; or the faulty line.
+/// Whether the words make a good sheet is not asked.
+pub fn rules(text: &[u8]) -> Result<(u32, Vec<u32>), u64> {
+    let (n, lines) = judged(Kind::Sheet, text)?;
+    Ok((n, lines.iter().filter_map(rule_word).collect()))
+}
+
+/// Where the names of a text of the kind stand in it, column by column, as its `.ilb` line has
+/// them; none if it has no names; or the faulty line.
+pub fn name_places(kind: Kind, text: &[u8]) -> Result<Vec<Range<usize>>, u64> {
+    judged(kind, text)?;
     let lines = lines(text);
-    let has_names = |(_, line): &&(usize, &[u8])| matches!(line_of(line), Line::InputNames(_));
+    let has_names =
+        |(_, line): &&(usize, &[u8])| matches!(line_of(kind, line), Line::InputNames(_));
     let Some((start, line)) = lines.iter().find(has_names) else {
         return Ok(Vec::new());
     };
@@ -270,6 +310,23 @@ fn row_words(n: u32, line: &Line) -> Vec<u32> {
     states.map(|state| Transition { state, successor }.word()).collect()
 }
 
+/// The word of a sheet's row: `1` for P, `0` for N, and the head at the output's `1`; none for
+/// another line.
+fn rule_word(line: &Line) -> Option<u32> {
+    let Line::Row(input, output) = line else {
+        return None;
+    };
+    let body = Body { on: columns_with(b'1', input), off: columns_with(b'0', input) };
+    let head = output.iter().position(|column| *column == b'1');
+    let head = head.expect("the output of a sheet's row has a head") as u32;
+    Some(Rule { head, body }.word())
+}
+
+/// The mask of the columns with a character.
+fn columns_with(character: u8, columns: &[u8]) -> u32 {
+    (0..columns.len()).filter(|relay| columns[*relay] == character).map(|relay| 1 << relay).sum()
+}
+
 /// Column 0, the leftmost, is relay 0.
 fn matches_columns(columns: &[u8], state: u32) -> bool {
     columns.iter().enumerate().all(|(relay, column)| match column {
@@ -293,22 +350,26 @@ mod tests {
         assert_eq!(lines(b"\na").len(), 2);
     }
 
+    fn recording_line(line: &[u8]) -> Line<'_> {
+        line_of(Kind::Recording, line)
+    }
+
     #[test]
     fn lines_by_themselves() {
-        assert_eq!(line_of(b" \t # .i 3"), Line::Blank);
-        assert_eq!(line_of(b"\t.i  3 #x"), Line::Inputs(3));
-        assert_eq!(line_of(b".i 3#x"), Line::Inputs(3));
-        assert_eq!(line_of(b".o 10"), Line::Outputs(10));
-        assert_eq!(line_of(b".e#x"), Line::End);
-        assert_eq!(line_of(b" .end "), Line::End);
-        assert_eq!(line_of(b".type\tfr"), Line::Type);
-        assert_eq!(line_of(b".p 0"), Line::Rows(b"0"));
-        assert_eq!(line_of(b".p 10"), Line::Rows(b"10"));
-        assert_eq!(line_of(b"1-0 010"), Line::Row(b"1-0", b"010"));
-        assert_eq!(line_of(b" .ilb\ta  B_0#c"), Line::InputNames(vec![b"a", b"B_0"]));
-        assert_eq!(line_of(b".ob 0 1 2"), Line::OutputNames(vec![b"0", b"1", b"2"]));
-        assert_eq!(line_of(b".ob#a"), Line::OutputNames(vec![]));
-        assert_eq!(line_of(b"#\r\0\x0b\x0c\xff"), Line::Blank);
+        assert_eq!(recording_line(b" \t # .i 3"), Line::Blank);
+        assert_eq!(recording_line(b"\t.i  3 #x"), Line::Inputs(3));
+        assert_eq!(recording_line(b".i 3#x"), Line::Inputs(3));
+        assert_eq!(recording_line(b".o 10"), Line::Outputs(10));
+        assert_eq!(recording_line(b".e#x"), Line::End);
+        assert_eq!(recording_line(b" .end "), Line::End);
+        assert_eq!(recording_line(b".type\tfr"), Line::Type);
+        assert_eq!(recording_line(b".p 0"), Line::Rows(b"0"));
+        assert_eq!(recording_line(b".p 10"), Line::Rows(b"10"));
+        assert_eq!(recording_line(b"1-0 010"), Line::Row(b"1-0", b"010"));
+        assert_eq!(recording_line(b" .ilb\ta  B_0#c"), Line::InputNames(vec![b"a", b"B_0"]));
+        assert_eq!(recording_line(b".ob 0 1 2"), Line::OutputNames(vec![b"0", b"1", b"2"]));
+        assert_eq!(recording_line(b".ob#a"), Line::OutputNames(vec![]));
+        assert_eq!(recording_line(b"#\r\0\x0b\x0c\xff"), Line::Blank);
     }
 
     #[test]
@@ -350,18 +411,52 @@ mod tests {
             b".ob a b\r",
         ];
         for fault in faults {
-            assert_eq!(line_of(fault), Line::Fault, "{:?}", String::from_utf8_lossy(fault));
+            assert_eq!(recording_line(fault), Line::Fault, "{:?}", String::from_utf8_lossy(fault));
+        }
+    }
+
+    #[test]
+    fn lines_of_a_sheet_by_themselves() {
+        let sheet_line = |line| line_of(Kind::Sheet, line);
+        assert_eq!(sheet_line(b"\t.type  f#r"), Line::Type);
+        assert_eq!(sheet_line(b".type f#"), Line::Type);
+        assert_eq!(sheet_line(b" 1-0\t010 # 1"), Line::Row(b"1-0", b"010"));
+        assert_eq!(sheet_line(b"- 1"), Line::Row(b"-", b"1"));
+        // The length of either part is for the sizes to say.
+        assert_eq!(sheet_line(b"1-0 01"), Line::Row(b"1-0", b"01"));
+        let faults: [&[u8]; 13] = [
+            b".type fr",
+            b".type",
+            b".type f f",
+            b".type F",
+            b".typef",
+            b".type fd",
+            b"1-0 000",
+            b"1-0 011",
+            b"1-0 111",
+            b"1-0 -10",
+            b"1-0 01-",
+            b"1-2 010",
+            b"1-0 012",
+        ];
+        for fault in faults {
+            assert_eq!(sheet_line(fault), Line::Fault, "{:?}", String::from_utf8_lossy(fault));
+        }
+        let alike: [&[u8]; 9] =
+            [b"", b"# x", b".i 3", b".o 10", b".p 0", b".ilb a b", b".ob a", b".e", b".end#"];
+        for line in alike {
+            assert_eq!(sheet_line(line), recording_line(line));
         }
     }
 
     #[test]
     fn places_of_names() {
         let text = b"# x\n.ob a Bc\n \t.ilb  a\tBc#c\n.i 2\n.o 2\n.type fr\n.e";
-        assert_eq!(name_places(text), Ok(vec![21..22, 23..25]));
+        assert_eq!(name_places(Kind::Recording, text), Ok(vec![21..22, 23..25]));
         assert_eq!((&text[21..22], &text[23..25]), (&b"a"[..], &b"Bc"[..]));
-        assert_eq!(name_places(b".i 2\n.o 2\n.type fr\n.e"), Ok(vec![]));
-        assert_eq!(name_places(b".ilb a\n.i 1\n.o 1\n.type fr\n.e"), Err(5));
-        assert_eq!(name_places(b".ilb a\n.ob a\n.i 1\n.o 1\n.e"), Err(5));
+        assert_eq!(name_places(Kind::Recording, b".i 2\n.o 2\n.type fr\n.e"), Ok(vec![]));
+        assert_eq!(name_places(Kind::Recording, b".ilb a\n.i 1\n.o 1\n.type fr\n.e"), Err(5));
+        assert_eq!(name_places(Kind::Recording, b".ilb a\n.ob a\n.i 1\n.o 1\n.e"), Err(5));
     }
 
     /// What the headers so far have said.

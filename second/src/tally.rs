@@ -5,28 +5,38 @@ use std::io::{self, Read};
 
 use crate::calls::{BAD_LAYOUT, DONE};
 use crate::desk::{
-    next_request, next_word, shape_of, Next, Request, APPLY, FRESH, JOIN, LEARN, LOOKUP, READ, RUN,
-    SESSION_START, SESSION_TAKE, SHAPES, TAKE, WRITE,
+    next_request, next_word, shape_of, Next, Request, APPLY, FRESH, JOIN, LEARN, LOOKUP, READ,
+    READ_SHEET, RUN, SESSION_START, SESSION_TAKE, SHAPES, TAKE, WRITE,
 };
-use crate::layout::recording;
+use crate::layout::{name_places, recording, rules, Kind};
+use crate::sheets::is_good_sheet;
 use crate::text::{found, NoName};
 
 /// How a call ended.
 #[derive(Clone, Copy, Debug, PartialEq, Eq, PartialOrd, Ord)]
 pub enum Outcome {
     Code(u64),
-    /// Write and run: done, and the sheet has name lines; done without them is code 0.
+    /// Write, run and read sheet: done, and the sheet has name lines; done without them is code 0.
     Named,
-    /// Read and run: code 11 for want of the type line alone, so that the first row is faulty, or
-    /// the end mark of a text without rows; any other 11 is code 11.
+    /// Read, run and read sheet: code 11 for want of the type line alone, so that the first row is
+    /// faulty, or the end mark of a text without rows; any other 11 is code 11.
     UntypedRow,
     UntypedEnd,
     /// Run alone: the refusal line is longer than `out`, the length is 0.
     NoRoomForLine,
     /// Lookup alone: a part of the panel's text, of the maker's, or the empty part, and why.
-    PanelName,
-    MakerName,
+    PanelName(Source),
+    MakerName(Source),
     Empty(NoName),
+}
+
+/// What kind of text a name was found in.
+#[derive(Clone, Copy, Debug, PartialEq, Eq, PartialOrd, Ord)]
+pub enum Source {
+    Recording,
+    GoodSheet,
+    /// A sheet text whose rules make no good sheet.
+    OtherSheet,
 }
 
 /// The codes that can occur in a call.
@@ -47,6 +57,7 @@ fn codes_of(call: u64) -> &'static [u64] {
         WRITE => &[0, 2, 3, 5, 12],
         RUN => &[0, 7, 8, 9, 11, 12, 13],
         LOOKUP => &[],
+        READ_SHEET => &[0, 5, 8, 11],
         _ => unreachable!("a shape has one of these calls"),
     }
 }
@@ -58,14 +69,19 @@ fn others_of(call: u64) -> &'static [Outcome] {
         WRITE => &[Outcome::Named],
         RUN => &[Outcome::Named, Outcome::UntypedRow, Outcome::UntypedEnd, Outcome::NoRoomForLine],
         LOOKUP => &[
-            Outcome::PanelName,
-            Outcome::MakerName,
+            Outcome::PanelName(Source::Recording),
+            Outcome::PanelName(Source::GoodSheet),
+            Outcome::PanelName(Source::OtherSheet),
+            Outcome::MakerName(Source::Recording),
+            Outcome::MakerName(Source::GoodSheet),
+            Outcome::MakerName(Source::OtherSheet),
             Outcome::Empty(NoName::BadPanel),
             Outcome::Empty(NoName::AbovePanel),
             Outcome::Empty(NoName::BadMaker),
             Outcome::Empty(NoName::Neither),
             Outcome::Empty(NoName::AboveMaker),
         ],
+        READ_SHEET => &[Outcome::Named, Outcome::UntypedRow, Outcome::UntypedEnd],
         _ => &[],
     }
 }
@@ -90,10 +106,18 @@ pub fn outcome_of(request: &Request, answer: &[u64]) -> Option<Outcome> {
         (LOOKUP, _) => looked_up(request, answer),
         _ => answer.first().map(|code| Outcome::Code(*code)),
     };
-    match (request.shape.call, outcome) {
-        // The first slice of both is the text.
-        (READ | RUN, Some(Outcome::Code(BAD_LAYOUT))) => {
-            untyped(&request.lent_bytes(0)).or(outcome)
+    let kind = match request.shape.call {
+        READ | RUN => Kind::Recording,
+        READ_SHEET => Kind::Sheet,
+        _ => return outcome,
+    };
+    // The first slice of all three is the text.
+    let text = request.lent_bytes(0);
+    match (kind, outcome) {
+        (_, Some(Outcome::Code(BAD_LAYOUT))) => untyped(kind, &text).or(outcome),
+        (Kind::Sheet, Some(Outcome::Code(DONE))) => {
+            let names = name_places(kind, &text).ok()?;
+            Some(if names.is_empty() { Outcome::Code(DONE) } else { Outcome::Named })
         }
         _ => outcome,
     }
@@ -101,8 +125,13 @@ pub fn outcome_of(request: &Request, answer: &[u64]) -> Option<Outcome> {
 
 /// The outcome of a text that breaks the layout for want of the type line alone: with the line put
 /// before it, it is read.
-fn untyped(text: &[u8]) -> Option<Outcome> {
-    let (_, words) = recording(&[b".type fr\n", text].concat()).ok()?;
+fn untyped(kind: Kind, text: &[u8]) -> Option<Outcome> {
+    let typed = [&kind.type_line(), &b"\n"[..], text].concat();
+    let (_, words) = match kind {
+        Kind::Recording => recording(&typed),
+        Kind::Sheet => rules(&typed),
+    }
+    .ok()?;
     Some(if words.is_empty() { Outcome::UntypedEnd } else { Outcome::UntypedRow })
 }
 
@@ -121,10 +150,20 @@ fn looked_up(request: &Request, answer: &[u64]) -> Option<Outcome> {
             let (panel, maker) = (request.lent_bytes(0), request.lent_bytes(1));
             found(request.numbers[0], &panel, &maker).err().map(Outcome::Empty)
         }
-        [0, _, length] if *length > 0 => Some(Outcome::PanelName),
-        [1, _, length] if *length > 0 => Some(Outcome::MakerName),
+        [0, _, length] if *length > 0 => source(&request.lent_bytes(0)).map(Outcome::PanelName),
+        [1, _, length] if *length > 0 => source(&request.lent_bytes(1)).map(Outcome::MakerName),
         _ => None,
     }
+}
+
+/// The kind of a text; none if it is bad, so that no name can have been found in it.
+fn source(text: &[u8]) -> Option<Source> {
+    if recording(text).is_ok() {
+        return Some(Source::Recording);
+    }
+    let (n, mut words) = rules(text).ok()?;
+    words.sort_unstable();
+    Some(if is_good_sheet(n, &words) { Source::GoodSheet } else { Source::OtherSheet })
 }
 
 /// How the program ended, or a write that is done, by what it printed.
@@ -244,9 +283,17 @@ fn label(outcome: Outcome) -> String {
         Outcome::UntypedRow => "code 11 at a row without type".to_string(),
         Outcome::UntypedEnd => "code 11 at an end without type".to_string(),
         Outcome::NoRoomForLine => "no room for the line".to_string(),
-        Outcome::PanelName => "panel's name".to_string(),
-        Outcome::MakerName => "maker's name".to_string(),
+        Outcome::PanelName(source) => format!("panel's name ({})", source_label(source)),
+        Outcome::MakerName(source) => format!("maker's name ({})", source_label(source)),
         Outcome::Empty(why) => format!("empty ({})", reason(why)),
+    }
+}
+
+fn source_label(source: Source) -> &'static str {
+    match source {
+        Source::Recording => "a recording's",
+        Source::GoodSheet => "a good sheet's",
+        Source::OtherSheet => "a sheet's that is not good",
     }
 }
 

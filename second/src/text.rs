@@ -1,10 +1,12 @@
-//! Recording text in, names looked up, sheet text out, and the program's text in, text out.
+//! Recording text in, sheet text in and out, names looked up, and the program's text in, text out.
+
+use std::ops::Range;
 
 use crate::calls::{
     fill, in_use, judge_panel, learn, require, room, Answer, BAD_LAYOUT, BAD_SHEET, BOOK_FULL,
     COUNT_ABOVE_SLICE, DONE, INPUT_TOO_LONG, TEXT_TOO_LONG,
 };
-use crate::layout::{name_places, recording};
+use crate::layout::{name_places, recording, rules, Kind};
 use crate::panel::Rule;
 use crate::sheets::is_good_sheet;
 
@@ -26,23 +28,45 @@ pub struct Reading {
     pub count: u64,
 }
 
+/// The size of a panel and some words of it; or a code and its place.
+type Words = Result<(u32, Vec<u32>), (u64, u64)>;
+
 /// Reads a recording into a list of words.
 pub fn read(text: &[u8], list: &mut [u32]) -> Reading {
-    match read_words(text, room(list)) {
+    left_in(list, read_words(text, room(list)))
+}
+
+/// Reads a sheet text into the words of its rules, in increasing order.
+pub fn read_sheet(text: &[u8], sheet: &mut [u32]) -> Reading {
+    left_in(sheet, read_rules(text, room(sheet)))
+}
+
+/// What a reader leaves in its slice, and answers.
+fn left_in(slice: &mut [u32], words: Words) -> Reading {
+    match words {
         Err((code, place)) => {
-            list.fill(0);
+            slice.fill(0);
             Reading { code, place, n: 0, count: 0 }
         }
         Ok((n, words)) => {
-            fill(list, &words);
+            fill(slice, &words);
             Reading { code: DONE, place: 0, n, count: room(&words) }
         }
     }
 }
 
-fn read_words(text: &[u8], list_room: u64) -> Result<(u32, Vec<u32>), (u64, u64)> {
+fn read_words(text: &[u8], list_room: u64) -> Words {
     let (n, words) = recording(text).map_err(|line| (BAD_LAYOUT, line))?;
     require(room(&words) <= list_room, BOOK_FULL).map_err(|code| (code, 0))?;
+    Ok((n, words))
+}
+
+fn read_rules(text: &[u8], sheet_room: u64) -> Words {
+    let (n, mut words) = rules(text).map_err(|line| (BAD_LAYOUT, line))?;
+    // Every row as written needs a word, one that stands twice as well.
+    require(room(&words) <= sheet_room, BOOK_FULL).map_err(|code| (code, 0))?;
+    words.sort_unstable();
+    require(is_good_sheet(n, &words), BAD_SHEET).map_err(|code| (code, 0))?;
     Ok((n, words))
 }
 
@@ -66,11 +90,11 @@ impl Part {
 /// Why a lookup hands back the empty part.
 #[derive(Clone, Copy, Debug, PartialEq, Eq, PartialOrd, Ord)]
 pub enum NoName {
-    /// Reading would refuse the panel's text with 11.
+    /// Both readers would refuse the panel's text with 11.
     BadPanel,
     /// The panel's text has names, and the column is not below its n.
     AbovePanel,
-    /// The panel's text has no names, and reading would refuse the maker's with 11.
+    /// The panel's text has no names, and both readers would refuse the maker's with 11.
     BadMaker,
     /// Neither text has names.
     Neither,
@@ -86,9 +110,9 @@ pub fn lookup(column: u64, panel: &[u8], maker: &[u8]) -> Part {
 /// The name of a column, or why there is none. The maker's text is consulted only if the panel's
 /// has no names: whatever it holds otherwise does no harm.
 pub fn found(column: u64, panel: &[u8], maker: &[u8]) -> Result<Part, NoName> {
-    let own = name_places(panel).map_err(|_| NoName::BadPanel)?;
+    let own = names_in(panel).ok_or(NoName::BadPanel)?;
     let (of_maker, names, above) = if own.is_empty() {
-        (true, name_places(maker).map_err(|_| NoName::BadMaker)?, NoName::AboveMaker)
+        (true, names_in(maker).ok_or(NoName::BadMaker)?, NoName::AboveMaker)
     } else {
         (false, own, NoName::AbovePanel)
     };
@@ -98,6 +122,12 @@ pub fn found(column: u64, panel: &[u8], maker: &[u8]) -> Result<Part, NoName> {
     // A text with names has as many as relays.
     let name = usize::try_from(column).ok().and_then(|column| names.get(column)).ok_or(above)?;
     Ok(Part { of_maker, start: name.start, length: name.len() })
+}
+
+/// Where the names of a text stand, whichever kind it is of; nothing if it is bad, that is if both
+/// readers would refuse it with 11. What else they would refuse it with does no harm.
+fn names_in(text: &[u8]) -> Option<Vec<Range<usize>>> {
+    Kind::BOTH.into_iter().find_map(|kind| name_places(kind, text).ok())
 }
 
 /// Writes a sheet, with names if the two texts have one for every column; the answer and the

@@ -1,9 +1,11 @@
 //! Requests and answers as bytes, the seeded cases, and the tally.
 
 use second::cases::{examples, malformed, requests, requests_but};
-use second::desk::{bytes_of, serve, shape_of, Request, LOOKUP, MOST_WORDS, READ, RUN, WRITE};
-use second::tally::{outcome_of, printed_outcome, targets, Outcome, Tally};
-use second::text::{found, read};
+use second::desk::{
+    bytes_of, serve, shape_of, Request, LOOKUP, MOST_WORDS, READ, READ_SHEET, RUN, WRITE,
+};
+use second::tally::{outcome_of, printed_outcome, targets, Outcome, Source, Tally};
+use second::text::{found, read, read_sheet, NoName};
 
 /// The answers to a stream, and whether it ended between two requests.
 fn served(stream: &[u8]) -> (Vec<u64>, bool) {
@@ -56,6 +58,25 @@ fn one_request_of_each_call() {
     assert_eq!(answered(&request), [vec![16, 0, 8, 9], line].concat());
     // lookup, of empty texts
     assert_eq!(answered(&[11, 0, 0, 0]), [0, 0, 0]);
+    // read sheet, an empty text, and a slice of one word
+    assert_eq!(answered(&[12, 0, 1, 7]), [11, 1, 0, 0, 0]);
+}
+
+#[test]
+fn requests_to_read_a_sheet() {
+    let read_sheet = |text: &str, room: u64| {
+        let words = vec![7; room as usize];
+        answered(&[vec![12], lent(text), vec![room], words].concat())
+    };
+    let text = ".i 1\n.o 1\n.type f\n1 1\n0 1\n.e\n";
+    assert_eq!(read_sheet(text, 3), [0, 0, 1, 2, 1, 1024, 0]);
+    assert_eq!(read_sheet(text, 2), [0, 0, 1, 2, 1, 1024]);
+    assert_eq!(read_sheet(text, 1), [8, 0, 0, 0, 0]);
+    assert_eq!(read_sheet(&text.replace("0 1", "- 1"), 3), [5, 0, 0, 0, 0, 0, 0]);
+    assert_eq!(read_sheet(&text.replace("0 1", "0 0"), 3), [11, 5, 0, 0, 0, 0, 0]);
+    assert_eq!(read_sheet(PLAIN, 1), [11, 3, 0, 0, 0]);
+    assert_eq!(read_sheet(&text.replace(".type", &".".repeat(30_000)), 0), [11, 3, 0, 0]);
+    assert_eq!(read_sheet(&format!("{text}{}", "#".repeat(30_000)), 2), [0, 0, 1, 2, 1, 1024]);
 }
 
 /// The words of a lent text: its length, then its bytes.
@@ -83,6 +104,11 @@ fn requests_with_names() {
     assert_eq!(lookup(u64::MAX, NAMED, ""), [0, 0, 0]);
     assert_eq!(lookup(0, PLAIN, NAMED), [1, 15, 1]);
     assert_eq!(lookup(0, "", NAMED), [0, 0, 0]);
+    // The same in the text of a sheet.
+    let sheet = NAMED.replace("fr", "f");
+    assert_eq!(lookup(0, &sheet, ""), [0, 15, 1]);
+    assert_eq!(lookup(0, PLAIN, &sheet), [1, 15, 1]);
+    assert_eq!(lookup(0, &sheet.replace(".type f\n", ""), &sheet), [0, 0, 0]);
 }
 
 #[test]
@@ -170,15 +196,70 @@ fn whose_name_was_looked_up() {
     }
 }
 
+#[test]
+fn what_kind_of_text_the_name_was_found_in() {
+    let sheet = "\n.i 1\n.o 1\n.ilb A\n.ob A\n.type f\n.e\n";
+    let texts = [
+        (NAMED.to_string(), Source::Recording),
+        (sheet.to_string(), Source::GoodSheet),
+        (sheet.replace(".e", "1 1\n.e"), Source::GoodSheet),
+        (sheet.replace(".e", "1 1\n1 1\n.e"), Source::OtherSheet),
+        (sheet.replace(".e", "1 1\n- 1\n.e"), Source::OtherSheet),
+    ];
+    for (text, source) in texts {
+        let plain = ".i 1\n.o 1\n.type f\n.e\n";
+        let lookups = [
+            (lookup_in(&text, ""), Outcome::PanelName(source)),
+            (lookup_in(plain, &text), Outcome::MakerName(source)),
+        ];
+        for (request, outcome) in lookups {
+            assert_eq!(outcome_of(&request, &request.answer()), Some(outcome), "{text:?}");
+        }
+    }
+    // No name stands in a bad text.
+    assert_eq!(outcome_of(&lookup_in("", NAMED), &[0, 15, 1]), None);
+    assert_eq!(outcome_of(&lookup_in(PLAIN, ""), &[1, 15, 1]), None);
+}
+
+/// A request to look up column 0.
+fn lookup_in(panel: &str, maker: &str) -> Request {
+    let slices = [panel, maker].map(|text| text.bytes().map(u64::from).collect());
+    Request { shape: shape_of(LOOKUP).unwrap(), numbers: vec![0], slices: slices.to_vec() }
+}
+
+/// A request to read or run a text, with so much room in each slice.
+fn request_with(call: u64, text: &str, rooms: &[usize]) -> Request {
+    let text = text.bytes().map(u64::from).collect();
+    let lent = rooms.iter().map(|room| vec![7; *room]);
+    let slices = [text].into_iter().chain(lent).collect();
+    Request { shape: shape_of(call).unwrap(), numbers: vec![], slices }
+}
+
 /// A request to read a text, and one to run it.
 fn read_and_run(text: &str) -> [Request; 2] {
-    let text: Vec<u64> = text.bytes().map(u64::from).collect();
-    let request = |call: u64, rooms: &[usize]| {
-        let lent = rooms.iter().map(|room| vec![7; *room]);
-        let slices = [text.clone()].into_iter().chain(lent).collect();
-        Request { shape: shape_of(call).unwrap(), numbers: vec![], slices }
-    };
-    [request(READ, &[4]), request(RUN, &[4, 4, 4, 40])]
+    [request_with(READ, text, &[4]), request_with(RUN, text, &[4, 4, 4, 40])]
+}
+
+#[test]
+fn how_reading_a_sheet_ended() {
+    let texts = [
+        (".i 1\n.o 1\n.type f\n1 1\n.e\n", Outcome::Code(0)),
+        (".i 1\n.o 1\n.type f\n.ilb A\n.ob A\n.e\n", Outcome::Named),
+        (".i 1\n.o 1\n.type f\n1 1\n1 1\n.e\n", Outcome::Code(5)),
+        (".i 1\n.o 1\n.type f\n1 1\n1 1\n1 1\n.e\n", Outcome::Code(8)),
+        (".i 1\n.o 1\n1 1\n.e\n", Outcome::UntypedRow),
+        (".i 1\n.o 1\n1 1\n1 1\n1 1\n.e\n", Outcome::UntypedRow),
+        (".p 0\n.i 1\n.o 1\n.e", Outcome::UntypedEnd),
+        // Something else is wrong, or that as well.
+        (".i 1\n.o 1\n1 0\n.e\n", Outcome::Code(11)),
+        (".p 1\n.i 1\n.o 1\n.e", Outcome::Code(11)),
+        (".i 1\n.o 1\n1 1\n.type f\n.e\n", Outcome::Code(11)),
+        (PLAIN, Outcome::Code(11)),
+    ];
+    for (text, outcome) in texts {
+        let request = request_with(READ_SHEET, text, &[2]);
+        assert_eq!(outcome_of(&request, &request.answer()), Some(outcome), "{text:?}");
+    }
 }
 
 #[test]
@@ -202,49 +283,138 @@ fn refused_for_want_of_the_type_line_alone() {
     }
 }
 
-/// Reading refuses the text with 11.
-fn is_bad(text: &[u8]) -> bool {
+/// The reader of recordings refuses the text with 11.
+fn no_recording(text: &[u8]) -> bool {
     read(text, &mut []).code == 11
 }
 
-/// The text is bad for want of the type line alone.
-fn lacks_type(text: &[u8]) -> bool {
-    is_bad(text) && !is_bad(&[b".type fr\n", text].concat())
+/// The reader of sheets does.
+fn no_sheet(text: &[u8]) -> bool {
+    read_sheet(text, &mut []).code == 11
 }
+
+/// Both readers do.
+fn is_bad(text: &[u8]) -> bool {
+    no_recording(text) && no_sheet(text)
+}
+
+/// The texts that a slice holds in all requests of a call.
+fn texts_of(requests: &[Request], call: u64, place: usize) -> Vec<Vec<u8>> {
+    let of_call = requests.iter().filter(|request| request.shape.call == call);
+    of_call.map(|request| request.lent_bytes(place)).collect()
+}
+
+/// Where a text is lent: the call, the slice, who refuses it with 11, and its type line.
+type Place = (u64, usize, Refuses, &'static str);
+type Refuses = fn(&[u8]) -> bool;
+const PLACES: [Place; 7] = [
+    (READ, 0, no_recording, ".type fr\n"),
+    (RUN, 0, no_recording, ".type fr\n"),
+    (LOOKUP, 0, is_bad, ".type fr\n"),
+    (LOOKUP, 1, is_bad, ".type fr\n"),
+    (WRITE, 1, is_bad, ".type fr\n"),
+    (WRITE, 2, is_bad, ".type fr\n"),
+    (READ_SHEET, 0, no_sheet, ".type f\n"),
+];
 
 #[test]
 fn seeded_texts_lack_the_type_line_wherever_a_text_is_lent() {
     let requests: Vec<Request> = requests(5_000, 0).collect();
-    let texts = |call: u64, place: usize| -> Vec<Vec<u8>> {
-        let of_call = requests.iter().filter(|request| request.shape.call == call);
-        of_call.map(|request| request.lent_bytes(place)).collect()
-    };
-    for (call, place) in [(READ, 0), (RUN, 0), (LOOKUP, 0), (LOOKUP, 1), (WRITE, 1), (WRITE, 2)] {
-        let texts = texts(call, place);
+    for (call, place, refused, type_line) in PLACES {
+        let texts = texts_of(&requests, call, place);
         let some = |what: &str, is_one: &dyn Fn(&[u8]) -> bool| {
             let count = texts.iter().filter(|text| is_one(text)).count();
             assert!(count > 0, "call {call}, slice {place}: no text with {what}");
             count
         };
-        let good = some("no fault", &|text| !is_bad(text));
+        let typed = |text: &[u8]| [type_line.as_bytes(), text].concat();
+        let lacks_type = |text: &[u8]| refused(text) && !refused(&typed(text));
+        let good = some("no fault", &|text| !refused(text));
         let lacking = some("no type line alone", &lacks_type);
         assert!(3 * lacking < good);
         some("names and no type line", &|text| {
-            lacks_type(text) && found(0, &[b".type fr\n", text].concat(), b"").is_ok()
+            lacks_type(text) && found(0, &typed(text), b"").is_ok()
         });
         some("another type", &|text| {
             let plain = String::from_utf8_lossy(text);
-            is_bad(text) && !is_bad(plain.replace(".type f\n", ".type fr\n").as_bytes())
+            refused(text) && !refused(plain.replace(".type fd\n", type_line).as_bytes())
         });
     }
+}
+
+#[test]
+fn seeded_texts_of_one_kind_are_given_to_the_reader_of_the_other() {
+    let requests: Vec<Request> = requests(5_000, 0).collect();
+    let refused_by: [(u64, Refuses); 3] =
+        [(READ, no_sheet), (RUN, no_sheet), (READ_SHEET, no_recording)];
+    for (call, refused) in refused_by {
+        let of_the_other = |text: &Vec<u8>| !refused(text);
+        assert!(texts_of(&requests, call, 0).iter().any(of_the_other), "call {call}");
+    }
+}
+
+#[test]
+fn seeded_texts_lack_the_type_line_and_the_end() {
     // Sizes, and neither type line nor row nor end mark: put in, the type line and the end mark
-    // are enough.
-    let unended = texts(READ, 0).into_iter().filter(|text| {
+    // are enough, and either of them is not.
+    let requests: Vec<Request> = requests(5_000, 0).collect();
+    let unended = |text: &Vec<u8>| {
         let typed = [b".type fr\n", &text[..]].concat();
         let whole = read(&[&typed[..], b"\n.e"].concat(), &mut []);
-        is_bad(text) && is_bad(&typed) && (whole.code, whole.count) == (0, 0)
-    });
-    assert!(unended.count() > 0);
+        is_bad(text) && no_recording(&typed) && (whole.code, whole.count) == (0, 0)
+    };
+    for call in [READ, READ_SHEET] {
+        assert!(texts_of(&requests, call, 0).iter().any(unended), "call {call}");
+    }
+}
+
+/// The column and the two texts of a lookup, or of the last one that a write makes.
+fn last_lookup(request: &Request) -> (u64, Vec<u8>, Vec<u8>) {
+    let (column, panel) = match request.shape.call {
+        LOOKUP => (request.numbers[0], 0),
+        _ => (request.numbers[0].wrapping_sub(1), 1),
+    };
+    (column, request.lent_bytes(panel), request.lent_bytes(panel + 1))
+}
+
+/// Of a column, a panel's text and a maker's.
+type IsOne<'a> = &'a dyn Fn(u64, &[u8], &[u8]) -> bool;
+
+#[test]
+fn seeded_texts_of_both_kinds_are_lent_to_lookup_and_write() {
+    let requests: Vec<Request> = requests(5_000, 0).collect();
+    for call in [LOOKUP, WRITE] {
+        let of_call = requests.iter().filter(|request| request.shape.call == call);
+        let asked: Vec<(u64, Vec<u8>, Vec<u8>)> = of_call.map(last_lookup).collect();
+        let some = |what: &str, is_one: IsOne| {
+            let mut asked = asked.iter();
+            let found = asked.any(|(column, panel, maker)| is_one(*column, panel, maker));
+            assert!(found, "call {call}: none with {what}");
+        };
+        let why = |column: u64, panel: &[u8], maker: &[u8]| found(column, panel, maker).err();
+        some("a sheet that has no such column", &|column, panel, maker| {
+            !no_sheet(panel) && why(column, panel, maker) == Some(NoName::AbovePanel)
+        });
+        some("a maker's sheet that has no such column", &|column, panel, maker| {
+            !no_sheet(maker) && why(column, panel, maker) == Some(NoName::AboveMaker)
+        });
+        some("a sheet beside a recording's names", &|column, panel, maker| {
+            let name = found(column, panel, maker);
+            !no_sheet(panel) && !no_recording(maker) && name.is_ok_and(|part| part.of_maker)
+        });
+        some("a recording beside a sheet's names", &|column, panel, maker| {
+            let name = found(column, panel, maker);
+            !no_recording(panel) && !no_sheet(maker) && name.is_ok_and(|part| part.of_maker)
+        });
+        some("two sheets without names", &|column, panel, maker| {
+            let neither = why(column, panel, maker) == Some(NoName::Neither);
+            neither && !no_sheet(panel) && !no_sheet(maker)
+        });
+        some("a sheet's text, no good one, with names", &|column, panel, maker| {
+            let room = &mut [0; 2_000][..];
+            read_sheet(panel, room).code == 5 && found(column, panel, maker).is_ok()
+        });
+    }
 }
 
 #[test]

@@ -161,7 +161,7 @@ const THREE: &[u8] = b".i 3\n.o 3\n.ob PUMP v_2 F\n.ilb\tPUMP  v_2 F#x\n.type fr
 const FIVE: &[u8] = b".ilb a b c d e\n.ob a b c d e\n.i 5\n.o 5\n.type fr\n.e";
 const PLAIN: &[u8] = b".i 4\n.o 4\n.type fr\n1111 0000\n.e\n";
 
-/// Texts that reading refuses with 11.
+/// Texts that both readers refuse with 11.
 const BAD: [&[u8]; 10] = [
     b"",
     b"\n",
@@ -172,7 +172,7 @@ const BAD: [&[u8]; 10] = [
     b".p 0\n.i 1\n.o 1\n.type fr\n1 1\n.e\n",
     b".i 3\n.o 3\n.ilb a b c\n.ob a b c\n.e\n",
     b".i 3\n.o 3\n.e\n",
-    b".i 3\n.o 3\n.type f\n.ilb a b c\n.ob a b c\n.e\n",
+    b".i 3\n.o 3\n.type fd\n.ilb a b c\n.ob a b c\n.e\n",
 ];
 
 /// Columns that no panel has; the third and fourth would be some by their last 32 bits.

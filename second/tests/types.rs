@@ -149,13 +149,13 @@ fn names_make_no_difference() {
 const NAMED: &[u8] = b".i 2\n.o 2\n.ilb a B\n.ob a B\n.type fr\n01 10\n.e\n";
 const PLAIN: &[u8] = b".type fr\n.i 2\n.o 2\n.e\n";
 
-/// Bad for want of the type line alone: with names and a row, with names, with neither; and what
-/// a sheet is written as.
+/// Bad for want of the type line alone: with names and a row, with names, with neither; and with
+/// both type lines.
 const UNTYPED: [&[u8]; 4] = [
     b".i 2\n.o 2\n.ilb a B\n.ob a B\n01 10\n.e\n",
     b".i 2\n.o 2\n.ilb a B\n.ob a B\n.e\n",
     b".i 2\n.o 2\n.e\n",
-    b".i 2\n.o 2\n.ilb a B\n.ob a B\n.type f\n.p 0\n.e\n",
+    b".i 2\n.o 2\n.ilb a B\n.ob a B\n.type f\n.type fr\n.e\n",
 ];
 
 #[test]

@@ -6,9 +6,9 @@ use Prim.Native.Nat.{ℕ}
 use lib.ListN.{length, getD}
 use Rattle.answers.specs.declared.Answer.{Answer}
 use Rattle.naming.specs.declared.Spot.{Spot}
-use Rattle.recording.specs.declared.ReadAnswer.{ReadAnswer}
+use Rattle.reading.specs.declared.ReadAnswer.{ReadAnswer}
 use Rattle.sessions.specs.declared.Session.{Session}
-use Rattle.public.specs.PublicCalls.{Call, fresh, take, learn, join, apply, session-start, session-take, session-take-lent, read, find-name, lookup, write-sheet, run, Result, Contract}
+use Rattle.public.specs.PublicCalls.{Call, fresh, take, learn, join, apply, session-start, session-take, session-take-lent, read, read-sheet, find-name, lookup, write-sheet, run, Result, Contract}
 
 -- ---- numbers in a row
 
@@ -49,6 +49,7 @@ handed (session-start n sheet) r = (r .1 ∷ sessionNumbers (r .0 .session) ∷ 
 handed (session-take s book sheet i j) r = (sessionNumbers (r .0 .session) ∷ r .1 ∷ r .2 ∷ [], numbers (r .0 .answer), r .0 .answer .code)
 handed (session-take-lent s book sheet i j) r = (sessionNumbers (r .1) ∷ r .2 ∷ r .3 ∷ [], numbers (r .0), r .0 .code)
 handed (read text list) r = (r .1 ∷ [], readNumbers (r .0), r .0 .code)
+handed (read-sheet text words) r = (r .1 ∷ [], readNumbers (r .0), r .0 .code)
 -- a name is handed over by its numbers, with the length returned; a part of a text itself no function here hands over
 handed (find-name panel maker column) r = ([], spotNumbers r, r .length)
 handed (lookup panel maker column) r = (r .0 ∷ [], r .1 ∷ r .2 ∷ [], length (r .0))

@@ -1,14 +1,14 @@
 // The calls under C's names: each makes the public call, stores the numbers of its answer, and returns the code.
 use answers::Answer;
 use naming::Spot;
-use recording::ReadAnswer;
+use reading::ReadAnswer;
 use sessions::Session;
 ghost use mathlib.Core.Path.{_≡_};
 ghost use mathlib.Core.List.{_∷_, []};
 ghost use mathlib.Core.Bool.{cond};
 ghost use lib.ListN.{getD};
 ghost use Rattle.joining.specs.Joining.{piece};
-ghost use Rattle.public.specs.PublicCalls.{fresh, take, learn, join, apply, session-start, session-take-lent, read, find-name, write-sheet, run};
+ghost use Rattle.public.specs.PublicCalls.{fresh, take, learn, join, apply, session-start, session-take-lent, read, read-sheet, find-name, write-sheet, run};
 ghost use Rattle.exports.specs.Numbers.{numbers, numbersWith, readNumbers, spotNumbers, sessionNumbers, sessionIn, Hands};
 ghost use Rattle.exports.specs.Sizes.{narrowed, sized};
 
@@ -224,6 +224,18 @@ pub extern "C" fn ntekuzino_read(text: &[u8], list: &mut [u32], answer: &mut [us
     ensures { λ r. ⌜ Hands (read (now (text .entry)) (now (list .entry))) (now (list .exit) ∷ []) (now (answer .exit)) r ⌝ }
 {
     let a = public::read(text, list);
+    put_read(a, answer)
+}
+
+#[no_mangle]
+pub extern "C" fn ntekuzino_read_sheet(
+    text: &[u8],
+    words: &mut [u32],
+    answer: &mut [usize; 4],
+) -> u32
+    ensures { λ r. ⌜ Hands (read-sheet (now (text .entry)) (now (words .entry))) (now (words .exit) ∷ []) (now (answer .exit)) r ⌝ }
+{
+    let a = public::read_sheet(text, words);
     put_read(a, answer)
 }
 

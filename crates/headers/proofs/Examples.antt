@@ -15,11 +15,14 @@ use Rattle.names.specs.Names.{nameByte, allName, nameOk, holds, goodNames, name
 use Rattle.lines.specs.Lines.{otherKey, keyOf, typedOf, rowLine, classOf, ofFields, lineOf}
 use Rattle.lines.specs.declared.Part.{Part}
 use Rattle.lines.specs.declared.Part.the-variants.{Ins, Outs}
-use Rattle.headers.specs.Layouts.{recording}
-use Rattle.headers.specs.Headers.{lacks, lacksNone, readyOf, rowFits, openOf, fitsOf, headerAllowed, endAllowed, rowAllowed, named, allowedBy, allowedAt, nextAt}
+use Rattle.lines.specs.declared.Kind.{Kind}
+use Rattle.lines.specs.declared.Kind.the-variants.{Recording, Sheet}
+use Rattle.headers.specs.Layouts.{recording, sheet}
+use Rattle.headers.specs.Headers.{lacks, lacksNone, readyOf, onlyFrom, onlyOn, rowFits, openOf, fitsOf, headerAllowed, endAllowed, rowAllowed, named, allowedBy, allowedAt, nextAt}
 use Rattle.headers.specs.Verdicts.{finishOf, judgeLines, judgeOf}
 use Rattle.headers.specs.Accepted.{times, rowsIn, Accepted}
 use Rattle.headers.specs.Places.{Begins, endIn, FaultyLine, Untyped, EndMissing, WrongCount, Place}
+use Rattle.headers.specs.declared.Layout.{Layout}
 use Rattle.headers.specs.declared.Header.{Header}
 use Rattle.headers.specs.declared.Header.the-variants.{Size, Names, TypeWord, Count}
 use Rattle.headers.specs.declared.Verdict.{Verdict}
@@ -30,6 +33,10 @@ use Rattle.headers.proofs.PlaceLaws.{passes-begins, begins-passes, bad-
 use Rattle.headers.proofs.TypeLines.{untyped-bad}
 
 -- ---- lines, each with its LF
+
+-- `.i 2`
+abbrev i2 : List ℕ
+i2 = 46 ∷ 105 ∷ 32 ∷ 50 ∷ 10 ∷ []
 
 -- `.i 1`
 abbrev i1 : List ℕ
@@ -103,6 +110,18 @@ unread = 49 ∷ 32 ∷ 45 ∷ 10 ∷ []
 abbrev wide : List ℕ
 wide = 49 ∷ 48 ∷ 32 ∷ 48 ∷ 49 ∷ 10 ∷ []
 
+-- `1- 01`
+abbrev rule : List ℕ
+rule = 49 ∷ 45 ∷ 32 ∷ 48 ∷ 49 ∷ 10 ∷ []
+
+-- `-0 10`
+abbrev other : List ℕ
+other = 45 ∷ 48 ∷ 32 ∷ 49 ∷ 48 ∷ 10 ∷ []
+
+-- `-0 11`
+abbrev two : List ℕ
+two = 45 ∷ 48 ∷ 32 ∷ 49 ∷ 49 ∷ 10 ∷ []
+
 -- `.e`
 abbrev end : List ℕ
 end = 46 ∷ 101 ∷ 10 ∷ []
@@ -117,10 +136,10 @@ note = 35 ∷ 32 ∷ 108 ∷ 97 ∷ 109 ∷ 112 ∷ 115 ∷ 10 ∷ []
 
 -- ---- verdicts
 
--- the verdict on each text is as written
-abbrev Judged : List (List ℕ × Verdict) → Type 0
-Judged [] = Unit {0}
-Judged (e ∷ es) = (judgeOf recording (e .0) ≡ e .1) × Judged es
+-- the verdict on each text of a layout is as written
+abbrev Judged : Layout → List (List ℕ × Verdict) → Type 0
+Judged lay [] = Unit {0}
+Judged lay (e ∷ es) = (judgeOf lay (e .0) ≡ e .1) × Judged lay es
 
 -- accepted: headers in any order, with and without `.p`, with dashes for states, no rows;
 -- refused: no lines; the later of unequal sizes; `.i`, `.type`, `.p` twice; `.type f`; a row, the end mark before both sizes; `.type`, `.p`,
@@ -184,37 +203,69 @@ named-texts =
     ∷ (obA ++ i1 ++ o1 ++ fr ++ end, Bad 5)
     ∷ []
 
-pub texts-judged : Judged texts
+pub texts-judged : Judged recording texts
 unfolding markOf run same body linesOf fieldsFrom fieldsIn cubeOf digits numberOf otherKey keyOf typedOf rowLine classOf ofFields lineOf nameByte allName nameOk holds goodNames namesCount sameFields namesIn lacks lacksNone readyOf rowFits openOf fitsOf headerAllowed endAllowed rowAllowed named allowedBy allowedAt nextAt finishOf judgeLines judgeOf
 texts-judged = (refl, (refl, (refl, (refl, (refl, (refl, (refl, (refl, (refl, (refl, (refl, (refl, (refl, (refl, (refl, (refl, (refl, (refl, (refl, (refl, (refl, (refl, tt))))))))))))))))))))))
 
-pub untyped-judged : Judged untyped-texts
+pub untyped-judged : Judged recording untyped-texts
 unfolding markOf run same body linesOf fieldsFrom fieldsIn cubeOf digits numberOf otherKey keyOf typedOf rowLine classOf ofFields lineOf nameByte allName nameOk holds goodNames namesCount sameFields namesIn lacks lacksNone readyOf rowFits openOf fitsOf headerAllowed endAllowed rowAllowed named allowedBy allowedAt nextAt finishOf judgeLines judgeOf
 untyped-judged = (refl, (refl, (refl, (refl, (refl, (refl, (refl, tt)))))))
 
-pub named-judged : Judged named-texts
+pub named-judged : Judged recording named-texts
 unfolding markOf run same body linesOf fieldsFrom fieldsIn cubeOf digits numberOf otherKey keyOf typedOf rowLine classOf ofFields lineOf nameByte allName nameOk holds goodNames namesCount sameFields namesIn lacks lacksNone readyOf rowFits openOf fitsOf headerAllowed endAllowed rowAllowed named allowedBy allowedAt nextAt finishOf judgeLines judgeOf
 named-judged = (refl, (refl, (refl, (refl, (refl, (refl, (refl, (refl, (refl, (refl, (refl, (refl, tt))))))))))))
 
--- what a verdict means: the text is a recording for n relays, or k is the place of its fault
-abbrev Means : List ℕ → Verdict → Type 0
-Means t (Good n) = Accepted recording n t
-Means t (Bad k) = Place recording t k
+-- ---- sheets
 
-abbrev Meant : List (List ℕ × Verdict) → Type 0
-Meant [] = Unit {0}
-Meant (e ∷ es) = Means (e .0) (e .1) × Meant es
+-- accepted: rows in any order, comments, names, a row twice, no rows;
+-- refused: two `1`s in an output, none, a `-`; `.type fr`; a row before the type line, the end mark with none; `.type f` twice; the wrong number of
+-- rows; no end mark; one name line alone; the later of unequal sizes
+abbrev sheet-texts : List (List ℕ × Verdict)
+sheet-texts =
+    (i2 ++ o2 ++ f ++ p2 ++ rule ++ other ++ end, Good 2)
+    ∷ (o2 ++ note ++ f ++ i2 ++ other ++ blank ++ rule ++ note ++ end ++ blank, Good 2)
+    ∷ (i1 ++ o1 ++ ilbA ++ obA ++ f ++ dash ++ end, Good 1)
+    ∷ (i1 ++ o1 ++ f ++ dash ++ dash ++ end, Good 1)
+    ∷ (i1 ++ o1 ++ f ++ end, Good 1)
+    ∷ (i2 ++ o2 ++ f ++ rule ++ two ++ end, Bad 5)
+    ∷ (i1 ++ o1 ++ f ++ row ++ end, Bad 4)
+    ∷ (i1 ++ o1 ++ f ++ unread ++ end, Bad 4)
+    ∷ (i1 ++ o1 ++ fr ++ dash ++ end, Bad 3)
+    ∷ (i1 ++ o1 ++ dash ++ f ++ end, Bad 3)
+    ∷ (i1 ++ o1 ++ end, Bad 3)
+    ∷ (i1 ++ o1 ++ f ++ f ++ dash ++ end, Bad 4)
+    ∷ (i1 ++ p2 ++ o1 ++ f ++ dash ++ end, Bad 2)
+    ∷ (i1 ++ o1 ++ f ++ dash, Bad 5)
+    ∷ (i1 ++ ilbA ++ o1 ++ f ++ dash ++ end, Bad 5)
+    ∷ (i1 ++ o2 ++ f ++ dash ++ end, Bad 2)
+    ∷ []
 
-means : (t : List ℕ) (v : Verdict) → judgeOf recording t ≡ v → Means t v
-means t (Good n) e = good-iff-text recording t n .0 e
-means t (Bad k) e = bad-iff-place recording t k .0 e
+pub sheets-judged : Judged sheet sheet-texts
+unfolding markOf run same body linesOf fieldsFrom fieldsIn cubeOf digits numberOf otherKey keyOf typedOf rowLine classOf ofFields lineOf nameByte allName nameOk holds goodNames namesCount sameFields namesIn lacks lacksNone readyOf onlyFrom onlyOn rowFits openOf fitsOf headerAllowed endAllowed rowAllowed named allowedBy allowedAt nextAt finishOf judgeLines judgeOf
+sheets-judged = (refl, (refl, (refl, (refl, (refl, (refl, (refl, (refl, (refl, (refl, (refl, (refl, (refl, (refl, (refl, (refl, tt))))))))))))))))
 
-meant : (es : List (List ℕ × Verdict)) → Judged es → Meant es
-meant [] h = tt
-meant (e ∷ es) h = (means (e .0) (e .1) (h .0), meant es (h .1))
+-- what a verdict means: the text is one of the layout, for n relays, or k is the place of its fault
+abbrev Means : Layout → List ℕ → Verdict → Type 0
+Means lay t (Good n) = Accepted lay n t
+Means lay t (Bad k) = Place lay t k
 
-pub texts-meant : Meant texts × (Meant untyped-texts × Meant named-texts)
-texts-meant = (meant texts texts-judged, (meant untyped-texts untyped-judged, meant named-texts named-judged))
+abbrev Meant : Layout → List (List ℕ × Verdict) → Type 0
+Meant lay [] = Unit {0}
+Meant lay (e ∷ es) = Means lay (e .0) (e .1) × Meant lay es
+
+means : (lay : Layout) (t : List ℕ) (v : Verdict) → judgeOf lay t ≡ v → Means lay t v
+means lay t (Good n) e = good-iff-text lay t n .0 e
+means lay t (Bad k) e = bad-iff-place lay t k .0 e
+
+meant : (lay : Layout) (es : List (List ℕ × Verdict)) → Judged lay es → Meant lay es
+meant lay [] h = tt
+meant lay (e ∷ es) h = (means lay (e .0) (e .1) (h .0), meant lay es (h .1))
+
+pub texts-meant : Meant recording texts × (Meant recording untyped-texts × Meant recording named-texts)
+texts-meant = (meant recording texts texts-judged, (meant recording untyped-texts untyped-judged, meant recording named-texts named-judged))
+
+pub sheets-meant : Meant sheet sheet-texts
+sheets-meant = meant sheet sheet-texts sheets-judged
 
 -- ---- an accepted text by hand
 
@@ -271,50 +322,94 @@ whole-accepted =
 abbrev pub named-whole : List ℕ
 named-whole = i1 ++ o1 ++ ilbA ++ obA ++ fr ++ row ++ end
 
-abbrev headers : List (List ℕ)
-headers = (46 ∷ 105 ∷ 32 ∷ 49 ∷ []) ∷ (46 ∷ 111 ∷ 32 ∷ 49 ∷ []) ∷ (46 ∷ 105 ∷ 108 ∷ 98 ∷ 32 ∷ 65 ∷ []) ∷ (46 ∷ 111 ∷ 98 ∷ 32 ∷ 65 ∷ 35 ∷ 66 ∷ []) ∷ (46 ∷ 116 ∷ 121 ∷ 112 ∷ 101 ∷ 32 ∷ 102 ∷ 114 ∷ []) ∷ []
+-- `.type` with the word of a kind
+abbrev typeLine : Kind → List ℕ
+typeLine Recording = 46 ∷ 116 ∷ 121 ∷ 112 ∷ 101 ∷ 32 ∷ 102 ∷ 114 ∷ []
+typeLine Sheet = 46 ∷ 116 ∷ 121 ∷ 112 ∷ 101 ∷ 32 ∷ 102 ∷ []
 
-headers-once : (h : Header) → times h headers ≤ 1
-unfolding times markOf run same body fieldsFrom fieldsIn digits numberOf otherKey keyOf typedOf classOf ofFields lineOf nameByte allName nameOk holds goodNames namesCount
-headers-once (Size Ins) = omega arith
-headers-once (Size Outs) = omega arith
-headers-once (Names Ins) = omega arith
-headers-once (Names Outs) = omega arith
-headers-once TypeWord = omega arith
-headers-once Count = omega arith
+abbrev headers : Kind → List (List ℕ)
+headers kind = (46 ∷ 105 ∷ 32 ∷ 49 ∷ []) ∷ (46 ∷ 111 ∷ 32 ∷ 49 ∷ []) ∷ (46 ∷ 105 ∷ 108 ∷ 98 ∷ 32 ∷ 65 ∷ []) ∷ (46 ∷ 111 ∷ 98 ∷ 32 ∷ 65 ∷ 35 ∷ 66 ∷ []) ∷ typeLine kind ∷ []
 
-headers-sized : (p : Part) → times (Size p) headers ≡ 1
+headers-once : (kind : Kind) (h : Header) → times h (headers kind) ≤ 1
 unfolding times markOf run same body fieldsFrom fieldsIn digits numberOf otherKey keyOf typedOf classOf ofFields lineOf nameByte allName nameOk holds goodNames namesCount
-headers-sized Ins = refl
-headers-sized Outs = refl
+headers-once Recording (Size Ins) = omega arith
+headers-once Recording (Size Outs) = omega arith
+headers-once Recording (Names Ins) = omega arith
+headers-once Recording (Names Outs) = omega arith
+headers-once Recording TypeWord = omega arith
+headers-once Recording Count = omega arith
+headers-once Sheet (Size Ins) = omega arith
+headers-once Sheet (Size Outs) = omega arith
+headers-once Sheet (Names Ins) = omega arith
+headers-once Sheet (Names Outs) = omega arith
+headers-once Sheet TypeWord = omega arith
+headers-once Sheet Count = omega arith
 
-headers-typed : times TypeWord headers ≡ 1
+headers-sized : (kind : Kind) (p : Part) → times (Size p) (headers kind) ≡ 1
 unfolding times markOf run same body fieldsFrom fieldsIn digits numberOf otherKey keyOf typedOf classOf ofFields lineOf nameByte allName nameOk holds goodNames namesCount
-headers-typed = refl
+headers-sized Recording Ins = refl
+headers-sized Recording Outs = refl
+headers-sized Sheet Ins = refl
+headers-sized Sheet Outs = refl
 
-headers-both : times (Names Ins) headers ≡ times (Names Outs) headers
+headers-typed : (kind : Kind) → times TypeWord (headers kind) ≡ 1
 unfolding times markOf run same body fieldsFrom fieldsIn digits numberOf otherKey keyOf typedOf classOf ofFields lineOf nameByte allName nameOk holds goodNames namesCount
-headers-both = refl
+headers-typed Recording = refl
+headers-typed Sheet = refl
+
+headers-both : (kind : Kind) → times (Names Ins) (headers kind) ≡ times (Names Outs) (headers kind)
+unfolding times markOf run same body fieldsFrom fieldsIn digits numberOf otherKey keyOf typedOf classOf ofFields lineOf nameByte allName nameOk holds goodNames namesCount
+headers-both Recording = refl
+headers-both Sheet = refl
 
 pub named-accepted : Accepted recording 1 named-whole
 unfolding markOf run same body linesOf fieldsFrom fieldsIn cubeOf digits numberOf otherKey keyOf typedOf rowLine classOf ofFields lineOf nameByte allName nameOk holds goodNames namesCount namesIn
 named-accepted =
     record {
-      top = headers;
+      top = headers Recording;
       middle = (49 ∷ 32 ∷ 48 ∷ []) ∷ [];
       mark = 46 ∷ 101 ∷ [];
       rest = [];
       names = (65 ∷ []) ∷ [];
       lines = refl;
       headers = (refl, (refl, ((refl, refl), ((refl, refl), (refl, tt)))));
-      once = headers-once;
-      sized = headers-sized;
-      typed = λ e. headers-typed;
-      both = headers-both;
+      once = headers-once Recording;
+      sized = headers-sized Recording;
+      typed = λ e. headers-typed Recording;
+      both = headers-both Recording;
       rows = (inr (record { on = 1; off = 0; free = 0; next = 0; unread = 0; width = 1 }, refl, record { width = refl; inputs = λ e. absurd (false≢true (sym e)); outputs = λ e. refl; single = λ e. absurd (false≢true e) }), tt);
       ends = refl;
       empty = tt;
     }
+
+-- ---- a sheet with the same names
+
+abbrev pub sheet-whole : List ℕ
+sheet-whole = i1 ++ o1 ++ ilbA ++ obA ++ f ++ dash ++ end
+
+pub sheet-accepted : Accepted sheet 1 sheet-whole
+unfolding markOf run same body linesOf fieldsFrom fieldsIn cubeOf digits numberOf otherKey keyOf typedOf rowLine classOf ofFields lineOf nameByte allName nameOk holds goodNames namesCount namesIn
+sheet-accepted =
+    record {
+      top = headers Sheet;
+      middle = (45 ∷ 32 ∷ 49 ∷ []) ∷ [];
+      mark = 46 ∷ 101 ∷ [];
+      rest = [];
+      names = (65 ∷ []) ∷ [];
+      lines = refl;
+      headers = (refl, (refl, ((refl, refl), ((refl, refl), (refl, tt)))));
+      once = headers-once Sheet;
+      sized = headers-sized Sheet;
+      typed = λ e. headers-typed Sheet;
+      both = headers-both Sheet;
+      rows = (inr (record { on = 0; off = 0; free = 1; next = 1; unread = 0; width = 1 }, refl, record { width = refl; inputs = λ e. absurd (false≢true (sym e)); outputs = λ e. refl; single = λ e. (0, omega arith, refl) }), tt);
+      ends = refl;
+      empty = tt;
+    }
+
+pub sheet-stands : times (Names Ins) (sheet-accepted .top) ≡ 1
+unfolding sheet-accepted times markOf run same body fieldsFrom fieldsIn digits numberOf otherKey keyOf typedOf classOf ofFields lineOf nameByte allName nameOk holds goodNames namesCount
+sheet-stands = refl
 
 -- the one has name lines, the other has none
 pub named-stands : times (Names Ins) (named-accepted .top) ≡ 1

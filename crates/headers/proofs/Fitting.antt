@@ -45,6 +45,19 @@ only-end h x e p = sym (sym p ∙ ap (λ (f : ℕ). onlyFrom f h x) (none h e) �
 
 -- ---- what it finds
 
+only-least : (f h x : ℕ) → onlyFrom f h x ≤ h + f
+unfolding onlyFrom
+only-least zero h x = omega arith
+only-least (suc f) h x = go (eqb x (2 ^ h)) (only-least f (h + 1) x)
+  where
+    go : (t : Bool) → onlyFrom f (h + 1) x ≤ h + 1 + f → cond t h (onlyFrom f (h + 1) x) ≤ h + suc f
+    go true l = omega arith
+    go false l = omega arith
+
+pub only-few : (x : ℕ) → onlyOn x ≤ 10
+unfolding onlyOn
+only-few x = only-least 10 0 x
+
 -- a relay that is found is the only one on
 only-is : (f h x : ℕ) → onlyFrom f h x < h + f → x ≡ 2 ^ onlyFrom f h x
 unfolding onlyFrom

@@ -2,8 +2,6 @@ pub mod Fitting
 pub mod Passing
 pub mod Seeing
 pub mod Counts
-pub mod Kept
-pub mod Turns
 pub mod Machine
 pub mod After
 pub mod Completing
@@ -12,4 +10,5 @@ pub mod Accepting
 pub mod PlaceLaws
 pub mod TypeLines
 pub mod Sizes
+pub mod OneKind
 pub mod Examples

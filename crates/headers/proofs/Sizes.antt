@@ -1,5 +1,6 @@
 -- An accepted text is for a panel of 1 to 10 relays, and every row of it has that many columns and fits the layout.
 use Prim.Native.Nat.{ℕ, _+_, _≤_}
+use mathlib.Core.Path.{_≡_}
 use mathlib.Core.Logic.{inl, inr}
 use mathlib.Core.List.{List, [], _∷_, _++_}
 use native.Mathlib.Omega.{arith}
@@ -14,6 +15,7 @@ use Rattle.lines.specs.declared.Line.the-variants.{Empty, Sized, Named, Typed, 
 use Rattle.lines.proofs.BoundLaws.{line-ok}
 use Rattle.headers.specs.Accepted.{one, isHeader, times, rowsIn, Fits, HeaderLine, RowLine, EmptyLine, All, Text}
 use Rattle.headers.specs.declared.Layout.{Layout}
+use Rattle.headers.specs.declared.Header.{Header}
 use Rattle.headers.specs.declared.Header.the-variants.{Size}
 
 size-line : (lay : Layout) (n r t : ℕ) (ns own : List (List ℕ)) (l : Line) → LineOk l → HeaderLine lay n r ns l own → 1 ≤ one (isHeader (Size Ins) l) + t → (1 ≤ t → (1 ≤ n) × (n ≤ 10)) → (1 ≤ n) × (n ≤ 10)
@@ -65,10 +67,22 @@ pub all-append : (P : Line → List (List ℕ) → Type 0) (ls ms : List (List �
 all-append P [] ms a b = b
 all-append P (l ∷ ls) ms a b = (a .0, all-append P ls ms (a .1) b)
 
+-- what every header, every row or empty line and the end mark of a text is, all its lines are
+pub text-all : (P : Line → List (List ℕ) → Type 0) (lay : Layout) (n : ℕ) (ls : List (List ℕ)) (t : Text lay n ls)
+    → ((l : Line) (own : List (List ℕ)) → HeaderLine lay n (rowsIn (t .middle)) (t .names) l own → P l own)
+    → ((l : Line) (own : List (List ℕ)) → RowLine lay n l own → P l own) → ((own : List (List ℕ)) → P End own) → All P ls
+text-all P lay n ls t h r e =
+    rw (t .lines)
+    (all-append P (t .top) (t .middle ++ t .mark ∷ t .rest) (all-map (HeaderLine lay n (rowsIn (t .middle)) (t .names)) P h (t .top) (t .headers))
+    (all-append P (t .middle) (t .mark ∷ t .rest) (all-map (RowLine lay n) P r (t .middle) (t .rows))
+    (rw (t .ends) (e (namesIn (t .mark))), all-map EmptyLine P (λ l own q. r l own (inl q)) (t .rest) (t .empty))))
+
 -- every row of a text has n columns and fits the layout
 pub text-rows : (lay : Layout) (n : ℕ) (ls : List (List ℕ)) → Text lay n ls → All (RowFits lay n) ls
-text-rows lay n ls t =
-    rw (t .lines)
-    (all-append (RowFits lay n) (t .top) (t .middle ++ t .mark ∷ t .rest) (all-map (HeaderLine lay n (rowsIn (t .middle)) (t .names)) (RowFits lay n) (header-fits lay n (rowsIn (t .middle)) (t .names)) (t .top) (t .headers))
-    (all-append (RowFits lay n) (t .middle) (t .mark ∷ t .rest) (all-map (RowLine lay n) (RowFits lay n) (row-fits lay n) (t .middle) (t .rows))
-    (rw (t .ends) tt, all-map EmptyLine (RowFits lay n) (λ l own e. rw e tt) (t .rest) (t .empty))))
+text-rows lay n ls t = text-all (RowFits lay n) lay n ls t (header-fits lay n (rowsIn (t .middle)) (t .names)) (row-fits lay n) (λ own. tt)
+
+-- how often a header stands among lines and others
+pub times-append : (h : Header) (ls ms : List (List ℕ)) → times h (ls ++ ms) ≡ times h ls + times h ms
+unfolding times
+times-append h [] ms = omega arith
+times-append h (l ∷ ls) ms = let r = times-append h ls ms in omega arith

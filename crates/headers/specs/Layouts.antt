@@ -2,7 +2,8 @@
 use mathlib.Core.Bool.{Bool, true, false}
 use Rattle.lines.specs.declared.Part.{Part}
 use Rattle.lines.specs.declared.Part.the-variants.{Ins, Outs}
-use Rattle.lines.specs.declared.Kind.the-variants.{Recording}
+use Rattle.lines.specs.declared.Kind.{Kind}
+use Rattle.lines.specs.declared.Kind.the-variants.{Recording, Sheet}
 use Rattle.headers.specs.declared.Layout.{Layout}
 use Rattle.headers.specs.declared.Header.{Header}
 use Rattle.headers.specs.declared.Header.the-variants.{Size, Names, TypeWord, Count}
@@ -37,6 +38,15 @@ sameHeader Count Count = true
 -- a recording: `.type fr` is required, inputs may be `-`, outputs are `0` or `1`, any number of them `1`
 abbrev pub recording : Layout
 recording = record { kind = Recording; typed = true; dashes = true; unread = false; single = false }
+
+-- a sheet: `.type f` is required, inputs may be `-`, outputs are `0` or `1`, exactly one of them `1`
+abbrev pub sheet : Layout
+sheet = record { kind = Sheet; typed = true; dashes = true; unread = false; single = true }
+
+-- what is asked of a text of a kind
+abbrev pub layoutOf : Kind → Layout
+layoutOf Recording = recording
+layoutOf Sheet = sheet
 
 -- the same layout, the type line being required or not
 abbrev pub requiring : Bool → Layout → Layout

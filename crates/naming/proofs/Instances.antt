@@ -8,12 +8,13 @@ use Rattle.fields.specs.Fields.{fieldsFrom, fieldsIn}
 use Rattle.fields.specs.Values.{cubeOf, digits, numberOf}
 use Rattle.names.specs.Names.{nameByte, allName, nameOk, holds, goodNames, namesCount}
 use Rattle.lines.specs.Lines.{otherKey, keyOf, rowLine, classOf, ofFields, lineOf}
-use Rattle.headers.specs.Layouts.{recording}
+use Rattle.lines.specs.declared.Kind.the-variants.{Recording, Sheet}
+use Rattle.headers.specs.Layouts.{layoutOf}
 use Rattle.headers.specs.Verdicts.{finishOf, judgeLines, judgeOf}
 use Rattle.headers.specs.Accepted.{times}
 use Rattle.headers.specs.declared.Header.the-variants.{TypeWord}
 use Rattle.headers.proofs.PlaceLaws.{bad-iff-place, accepted-no-place}
-use Rattle.headers.proofs.Examples.{whole, whole-accepted, none-stands, named-whole, named-accepted, named-stands}
+use Rattle.headers.proofs.Examples.{whole, whole-accepted, none-stands, named-whole, named-accepted, named-stands, sheet-whole, sheet-accepted, sheet-stands}
 use Rattle.naming.specs.Naming.{noName, spotOf}
 use Rattle.naming.specs.Columns.{namesFor}
 use Rattle.naming.specs.Answers.{Answers, BadText}
@@ -21,26 +22,33 @@ use Rattle.naming.proofs.Request.{own-names, makers-names, no-names, ba
 
 -- the panel's own names, whatever the maker's text
 pub own-answers : (maker : List ℕ) → Answers named-whole maker 1 (named-accepted .names)
-own-answers maker = own-names named-whole maker 1 named-accepted named-stands
+own-answers maker = own-names Recording named-whole maker 1 named-accepted named-stands
+
+-- a sheet's names, and a sheet's as the maker's text (02, Ask 3)
+pub sheet-answers : (maker : List ℕ) → Answers sheet-whole maker 1 (sheet-accepted .names)
+sheet-answers maker = own-names Sheet sheet-whole maker 1 sheet-accepted sheet-stands
+
+pub makers-sheet-answers : Answers whole sheet-whole 1 (sheet-accepted .names)
+makers-sheet-answers = makers-names Recording Sheet whole sheet-whole 1 1 whole-accepted sheet-accepted none-stands sheet-stands
 
 -- the maker's, where the panel's text has none
 pub makers-answers : Answers whole named-whole 1 (named-accepted .names)
-makers-answers = makers-names whole named-whole 1 1 whole-accepted named-accepted none-stands named-stands
+makers-answers = makers-names Recording Recording whole named-whole 1 1 whole-accepted named-accepted none-stands named-stands
 
 -- neither
 pub no-answers : (v : ℕ) → spotOf whole whole v ≡ noName
-no-answers = no-names whole whole 1 1 whole-accepted whole-accepted none-stands none-stands
+no-answers = no-names Recording Recording whole whole 1 1 whole-accepted whole-accepted none-stands none-stands
 
 -- the empty text has no end mark
 pub empty-bad : BadText []
 unfolding linesOf finishOf judgeLines judgeOf
-empty-bad n h = accepted-no-place recording [] n 1 h (bad-iff-place recording [] 1 .0 refl)
+empty-bad kind n h = accepted-no-place (layoutOf kind) [] n 1 h (bad-iff-place (layoutOf kind) [] 1 .0 refl)
 
 pub bad-panel-answers : (maker : List ℕ) (v : ℕ) → spotOf [] maker v ≡ noName
 bad-panel-answers maker = bad-panel [] maker empty-bad
 
 pub bad-maker-answers : (v : ℕ) → spotOf whole [] v ≡ noName
-bad-maker-answers = bad-maker whole [] 1 whole-accepted none-stands empty-bad
+bad-maker-answers = bad-maker Recording whole [] 1 whole-accepted none-stands empty-bad
 
 -- nor has a text a good layout that has no type line:
 --   .i 1⏎.o 1⏎.ilb A⏎.ob A⏎1 0⏎.e⏎
@@ -54,11 +62,11 @@ typeless-none = refl
 pub typeless-answers : (maker : List ℕ) (v : ℕ) → (spotOf typeless maker v ≡ noName) × (spotOf whole typeless v ≡ noName)
 typeless-answers maker v =
     let b = typeless-bad typeless typeless-none in
-    (bad-panel typeless maker b v, bad-maker whole typeless 1 whole-accepted none-stands b v)
+    (bad-panel typeless maker b v, bad-maker Recording whole typeless 1 whole-accepted none-stands b v)
 
 -- a sheet is written with the names of its recording, or without any: the program lends an empty maker's text
 pub own-lines : namesFor named-whole [] 1 ≡ named-accepted .names
-own-lines = own-written named-whole [] 1 named-accepted named-stands
+own-lines = own-written Recording named-whole [] 1 named-accepted named-stands
 
 pub no-lines : (k : ℕ) → namesFor whole [] k ≡ []
-no-lines = none-written whole [] 1 whole-accepted none-stands empty-bad
+no-lines = none-written Recording whole [] 1 whole-accepted none-stands empty-bad

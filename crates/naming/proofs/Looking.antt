@@ -14,6 +14,7 @@ use Rattle.names.specs.Spans.{between, bytesOf, nameSpan}
 use Rattle.names.proofs.NameLaws.{drop-take-is}
 use Rattle.names.proofs.SpanLaws.{name-in, name-bytes}
 use Rattle.names.proofs.Meaning.{name-of-good, differ-of-good}
+use Rattle.headers.specs.Layouts.{layoutOf}
 use Rattle.naming.specs.Naming.{namingOf, sourceFor, sourceOf, noName, spotIn, spotFor, spotOf, bytesAt, nameOf, PartOf}
 use Rattle.naming.specs.declared.Naming.{Naming}
 use Rattle.naming.specs.declared.Naming.the-variants.{Refused, Nameless, Named}
@@ -86,7 +87,7 @@ pub record NamedBy (panel maker line : List ℕ) (n : ℕ) : Type 0 where
 pub named-by-panel : (panel maker : List ℕ) (n a e : ℕ) → sourceOf panel maker ≡ Panel n a e → NamedBy panel maker (between a e panel) n
 named-by-panel panel maker n a e h =
     let w = naming-e panel n a e (source-panel panel maker n a e h) in
-    let x = good-named panel n a e (w .0) (w .1) in
+    let x = good-named (layoutOf (w .0 .0)) panel n a e (w .0 .1) (w .1) in
     record {
       many = x .many;
       good = x .good;
@@ -98,7 +99,7 @@ named-by-panel panel maker n a e h =
 pub named-by-maker : (panel maker : List ℕ) (n a e : ℕ) → sourceOf panel maker ≡ Maker n a e → NamedBy panel maker (between a e maker) n
 named-by-maker panel maker n a e h =
     let w = naming-e maker n a e (source-maker panel maker n a e h .1) in
-    let x = good-named maker n a e (w .0) (w .1) in
+    let x = good-named (layoutOf (w .0 .0)) maker n a e (w .0 .1) (w .1) in
     record {
       many = x .many;
       good = x .good;

@@ -12,12 +12,14 @@ use denote.Ref.{RefT, now, ptr}
 use Rattle.fields.specs.declared.Span.{Span}
 use Rattle.names.specs.Spans.{between, nameSpan}
 use Rattle.names.proofs.SpanLaws.{name-in}
-use Rattle.headers.specs.Layouts.{recording}
+use Rattle.lines.specs.declared.Kind.{Kind}
+use Rattle.lines.specs.declared.Kind.the-variants.{Recording, Sheet}
+use Rattle.headers.specs.Layouts.{recording, sheet, layoutOf}
 use Rattle.headers.specs.Verdicts.{judgeOf}
 use Rattle.headers.specs.declared.Layout.{Layout}
 use Rattle.headers.specs.declared.Verdict.{Verdict}
 use Rattle.headers.specs.declared.Verdict.the-variants.{Good, Bad}
-use Rattle.naming.specs.Naming.{homeOf, namingFor, namingOf, makersSource, sourceFor, sourceOf, noName, spotAt, spotIn, spotOf, Within, PartOf}
+use Rattle.naming.specs.Naming.{homeOf, eitherOf, judgeEither, namingFor, namingOf, makersSource, sourceFor, sourceOf, noName, spotAt, spotIn, spotOf, Within, PartOf}
 use Rattle.naming.specs.Columns.{lineIn, nameLine}
 use Rattle.naming.specs.declared.Home.{Home}
 use Rattle.naming.specs.declared.Home.the-variants.{Stands, Nowhere}
@@ -30,25 +32,43 @@ use Rattle.naming.proofs.HomeLaws.{home-stands}
 
 -- ---- one text
 
--- by the verdict v on it, as the code asks for it
+-- as the code finds the verdict: as a recording, and else as a sheet
 module _ (t : List ℕ) (lay : Layout) (v : Verdict) (hl : lay ≡ recording) (hv : v ≡ judgeOf lay t) where
   verdict-is : judgeOf recording t ≡ v
   verdict-is = sym (hv ∙ ap (λ (l : Layout). judgeOf l t) hl)
 
-  pub naming-good : (n : ℕ) (h : Home) (r : Naming) → v ≡ Good n → h ≡ homeOf t → r ≡ namingFor (Good n) h → r ≡ namingOf t
-  unfolding namingOf
-  naming-good n h r g e q = q ∙ rw (verdict-is, g, e)
+  pub either-first : (n : ℕ) → v ≡ Good n → Good n ≡ judgeEither t
+  unfolding judgeEither
+  either-first n g = rw (verdict-is, g)
 
-  pub naming-bad : (k : ℕ) → v ≡ Bad k → Refused ≡ namingOf t
-  unfolding namingOf
-  naming-bad k g = rw (verdict-is, g)
+  pub either-second : (k : ℕ) (other : Layout) (r : Verdict) → v ≡ Bad k → other ≡ sheet → r ≡ judgeOf other t → r ≡ judgeEither t
+  unfolding judgeEither
+  either-second k other r g ho hr = hr ∙ ap (λ (l : Layout). judgeOf l t) ho ∙ rw (verdict-is, g)
+
+-- by the verdict on it
+pub naming-good : (t : List ℕ) (v : Verdict) → v ≡ judgeEither t → (n : ℕ) (h : Home) (r : Naming) → v ≡ Good n → h ≡ homeOf t → r ≡ namingFor (Good n) h → r ≡ namingOf t
+unfolding namingOf
+naming-good t v hv n h r g e q = q ∙ rw (← hv, g, e)
+
+pub naming-bad : (t : List ℕ) (v : Verdict) → v ≡ judgeEither t → (k : ℕ) → v ≡ Bad k → Refused ≡ namingOf t
+unfolding namingOf
+naming-bad t v hv k g = rw (← hv, g)
+
+-- a good text of either kind is good for one of them
+either-kind : (t : List ℕ) (n : ℕ) → judgeEither t ≡ Good n → (kind : Kind) × (judgeOf (layoutOf kind) t ≡ Good n)
+unfolding judgeEither
+either-kind t n h = go (judgeOf recording t) refl h
+  where
+    go : (v : Verdict) → judgeOf recording t ≡ v → eitherOf v (judgeOf sheet t) ≡ Good n → (kind : Kind) × (judgeOf (layoutOf kind) t ≡ Good n)
+    go (Good m) e q = (Recording, e ∙ q)
+    go (Bad k) e q = (Sheet, q)
 
 -- a text that names columns is a good one, and has an `.ilb` line
-pub naming-e : (t : List ℕ) (n a e : ℕ) → namingOf t ≡ Named n a e → (judgeOf recording t ≡ Good n) × (homeOf t ≡ Stands a e)
+pub naming-e : (t : List ℕ) (n a e : ℕ) → namingOf t ≡ Named n a e → ((kind : Kind) × (judgeOf (layoutOf kind) t ≡ Good n)) × (homeOf t ≡ Stands a e)
 unfolding namingOf
-naming-e t n a e h = go (judgeOf recording t) refl (homeOf t) refl h
+naming-e t n a e h = let k = go (judgeEither t) refl (homeOf t) refl h in (either-kind t n (k .0), k .1)
   where
-    go : (v : Verdict) → judgeOf recording t ≡ v → (m : Home) → homeOf t ≡ m → namingFor v m ≡ Named n a e → (judgeOf recording t ≡ Good n) × (homeOf t ≡ Stands a e)
+    go : (v : Verdict) → judgeEither t ≡ v → (m : Home) → homeOf t ≡ m → namingFor v m ≡ Named n a e → (judgeEither t ≡ Good n) × (homeOf t ≡ Stands a e)
     go (Bad k) p m q h = absurd (let z : _≡_ {A = ℕ} 0 1 = cc in omega arith)
     go (Good k) p Nowhere q h = absurd (let z : _≡_ {A = ℕ} 0 1 = cc in omega arith)
     go (Good k) p (Stands b f) q h = (cc, cc)

@@ -1,4 +1,4 @@
--- The name lines of a recording: the line that is found names every column, its names are good, and every name line of the text has them.
+-- The name lines of a text: the line that is found names every column, its names are good, and every name line of the text has them.
 use Prim.Native.Nat.{ℕ, _+_, _≤_}
 use mathlib.Core.Path.{_≡_, refl, sym, _∙_, ap}
 use mathlib.Core.List.{List, [], _∷_, _++_, List·Memᴰ as Mem, List·Memᴰ·head as here, List·Memᴰ·tail as there}
@@ -16,16 +16,14 @@ use Rattle.lines.specs.declared.Part.the-variants.{Ins, Outs}
 use Rattle.lines.specs.declared.Line.{Line}
 use Rattle.lines.specs.declared.Line.the-variants.{Empty, Sized, Named, Typed, Rows, Row, End, Fault}
 use Rattle.lines.proofs.BoundLaws.{names-ok}
-use Rattle.headers.specs.Layouts.{recording}
 use Rattle.headers.specs.Verdicts.{judgeOf}
-use Rattle.headers.specs.Accepted.{isHeader, one, times, rowsIn, HeaderLine, RowLine, EmptyLine, All, Text, Accepted}
+use Rattle.headers.specs.Accepted.{isHeader, one, times, rowsIn, HeaderLine, RowLine, All, Text, Accepted}
 use Rattle.headers.specs.Places.{isAside}
 use Rattle.headers.specs.declared.Layout.{Layout}
-use Rattle.headers.specs.declared.Header.{Header}
 use Rattle.headers.specs.declared.Header.the-variants.{Names}
 use Rattle.headers.specs.declared.Verdict.the-variants.{Good}
 use Rattle.headers.proofs.Accepting.{good-iff-text}
-use Rattle.headers.proofs.Sizes.{all-map, all-append}
+use Rattle.headers.proofs.Sizes.{text-all}
 use Rattle.headers.proofs.Seeing.{same-part}
 use Rattle.naming.specs.Naming.{homeFrom, homeOf}
 use Rattle.naming.specs.declared.Home.the-variants.{Stands, Nowhere}
@@ -53,35 +51,18 @@ name-line-header lay n r ns (Row m) own h p e = absurd h
 name-line-header lay n r ns End own h p e = absurd h
 name-line-header lay n r ns Fault own h p e = absurd h
 
-name-line-empty : (n : ℕ) (ns : List (List ℕ)) (l : Line) (own : List (List ℕ)) → l ≡ Empty → NameLine n ns l own
-name-line-empty n ns l own q p e = absurd (false≢true (rw q at e))
-
-name-line-end : (n : ℕ) (ns : List (List ℕ)) (l : Line) (own : List (List ℕ)) → l ≡ End → NameLine n ns l own
-name-line-end n ns l own q p e = absurd (false≢true (rw q at e))
-
 name-line-row : (lay : Layout) (n : ℕ) (ns : List (List ℕ)) (l : Line) (own : List (List ℕ)) → RowLine lay n l own → NameLine n ns l own
 name-line-row lay n ns l own (inl q) p e = absurd (false≢true (rw q at e))
 name-line-row lay n ns l own (inr q) p e = absurd (false≢true (rw (q .1) at e))
 
-name-lines : (lay : Layout) (n r : ℕ) (ns top middle : List (List ℕ)) (mark : List ℕ) (rest : List (List ℕ)) → All (HeaderLine lay n r ns) top → All (RowLine lay n) middle
-    → lineOf mark ≡ End → All EmptyLine rest → All (NameLine n ns) (top ++ (middle ++ mark ∷ rest))
-name-lines lay n r ns top middle mark rest h m e t =
-    all-append (NameLine n ns) top (middle ++ mark ∷ rest) (all-map (HeaderLine lay n r ns) (NameLine n ns) (name-line-header lay n r ns) top h)
-    (all-append (NameLine n ns) middle (mark ∷ rest) (all-map (RowLine lay n) (NameLine n ns) (name-line-row lay n ns) middle m)
-    (name-line-end n ns (lineOf mark) (namesIn mark) e, all-map EmptyLine (NameLine n ns) (name-line-empty n ns) rest t))
-
 -- every name line of an accepted text has its n names
 pub text-name-lines : (lay : Layout) (n : ℕ) (ls : List (List ℕ)) (t : Text lay n ls) → All (NameLine n (t .names)) ls
 text-name-lines lay n ls t =
-    all-lines (t .names) (t .top ++ (t .middle ++ t .mark ∷ t .rest)) (t .lines)
-    (name-lines lay n (rowsIn (t .middle)) (t .names) (t .top) (t .middle) (t .mark) (t .rest) (t .headers) (t .rows) (t .ends) (t .empty))
-  where
-    all-lines : (ns ms : List (List ℕ)) → ls ≡ ms → All (NameLine n ns) ms → All (NameLine n ns) ls
-    all-lines ns ms e a = rw e a
+    text-all (NameLine n (t .names)) lay n ls t (name-line-header lay n (rowsIn (t .middle)) (t .names)) (name-line-row lay n (t .names)) (λ own p e. absurd (false≢true e))
 
 -- ---- the line that is found
 
--- the line from a to e of a recording of n columns: it is the `.ilb` line, has n good names, and every name line of the text has them
+-- the line from a to e of a text of n columns: it is the `.ilb` line, has n good names, and every name line of the text has them
 pub record NamedText (t : List ℕ) (n a e : ℕ) : Type 0 where
   pub ordered : a ≤ e
   pub inside : e ≤ length t
@@ -90,11 +71,11 @@ pub record NamedText (t : List ℕ) (n a e : ℕ) : Type 0 where
   pub many : length (namesIn (between a e t)) ≡ n
   pub every : All (NameLine n (namesIn (between a e t))) (linesOf t)
 
-module _ (t : List ℕ) (n a e : ℕ) (x : Accepted recording n t) (h : homeOf t ≡ Stands a e) where
+module _ (lay : Layout) (t : List ℕ) (n a e : ℕ) (x : Accepted lay n t) (h : homeOf t ≡ Stands a e) where
   found-line : (lineOf (between a e t) ≡ Named Ins n) × (namesIn (between a e t) ≡ x .names)
   found-line =
       let s = home-stands t a e h in
-      all-at (NameLine n (x .names)) (text-name-lines recording n (linesOf t) x) (s .among) Ins (s .inputs)
+      all-at (NameLine n (x .names)) (text-name-lines lay n (linesOf t) x) (s .among) Ins (s .inputs)
 
   -- its names are those of the text, as 02 defines them
   pub names-of-text : namesIn (between a e t) ≡ x .names
@@ -110,15 +91,10 @@ module _ (t : List ℕ) (n a e : ℕ) (x : Accepted recording n t) (h : homeOf t
         line = found-line .0;
         good = ok .0;
         many = ok .1;
-        every = rw names-of-text (text-name-lines recording n (linesOf t) x);
+        every = rw names-of-text (text-name-lines lay n (linesOf t) x);
       }
 
 -- ---- a text without name lines
-
-pub times-append : (h : Header) (ls ms : List (List ℕ)) → times h (ls ++ ms) ≡ times h ls + times h ms
-unfolding times
-times-append h [] ms = omega arith
-times-append h (l ∷ ls) ms = let r = times-append h ls ms in omega arith
 
 header-aside : (lay : Layout) (n r : ℕ) (ns : List (List ℕ)) (l : Line) (own : List (List ℕ)) → HeaderLine lay n r ns l own → isAside (viewOf l) ≡ true
 header-aside lay n r ns Empty own h = refl
@@ -143,10 +119,10 @@ nowhere-top lay n r ns at (l ∷ top) others a h =
     go false k more = omega (arith, more k)
 
 -- where no `.ilb` line is found, the text has no name lines at all
-pub nowhere-nameless : (t : List ℕ) (n : ℕ) (x : Accepted recording n t) → homeOf t ≡ Nowhere → (p : Part) → times (Names p) (x .top) ≡ 0
+pub nowhere-nameless : (lay : Layout) (t : List ℕ) (n : ℕ) (x : Accepted lay n t) → homeOf t ≡ Nowhere → (p : Part) → times (Names p) (x .top) ≡ 0
 unfolding homeOf
-nowhere-nameless t n x h p =
-    both p (nowhere-top recording n (rowsIn (x .middle)) (x .names) 0 (x .top) (x .middle ++ x .mark ∷ x .rest) (x .headers) (ap (homeFrom 0) (sym (x .lines)) ∙ h))
+nowhere-nameless lay t n x h p =
+    both p (nowhere-top lay n (rowsIn (x .middle)) (x .names) 0 (x .top) (x .middle ++ x .mark ∷ x .rest) (x .headers) (ap (homeFrom 0) (sym (x .lines)) ∙ h))
   where
     both : (p : Part) → times (Names Ins) (x .top) ≡ 0 → times (Names p) (x .top) ≡ 0
     both Ins z = z
@@ -155,5 +131,5 @@ nowhere-nameless t n x h p =
 -- ---- by the verdict
 
 -- a good text with an `.ilb` line
-pub good-named : (t : List ℕ) (n a e : ℕ) → judgeOf recording t ≡ Good n → homeOf t ≡ Stands a e → NamedText t n a e
-good-named t n a e g h = accepted-named t n a e (good-iff-text recording t n .0 g) h
+pub good-named : (lay : Layout) (t : List ℕ) (n a e : ℕ) → judgeOf lay t ≡ Good n → homeOf t ≡ Stands a e → NamedText t n a e
+good-named lay t n a e g h = accepted-named lay t n a e (good-iff-text lay t n .0 g) h

@@ -11,7 +11,7 @@ use Rattle.fields.specs.declared.Span.{Span}
 use Rattle.names.specs.Spans.{between, nameSpan}
 use Rattle.lines.specs.Lines.{lineOf, viewOf}
 use Rattle.lines.specs.declared.Part.the-variants.{Ins}
-use Rattle.headers.specs.Layouts.{recording}
+use Rattle.headers.specs.Layouts.{recording, sheet}
 use Rattle.headers.specs.Accepted.{isHeader}
 use Rattle.headers.specs.Verdicts.{judgeOf}
 use Rattle.headers.specs.Places.{isAside}
@@ -39,15 +39,23 @@ homeFrom at (l ∷ ls) =
 unfoldable pub homeOf : List ℕ → Home
 homeOf t = homeFrom 0 (linesOf t)
 
+-- the verdict on a text of either kind: as a recording, and where that is bad as a sheet
+abbrev pub eitherOf : Verdict → Verdict → Verdict
+eitherOf (Good n) v = Good n
+eitherOf (Bad k) v = v
+
+unfoldable pub judgeEither : List ℕ → Verdict
+judgeEither t = eitherOf (judgeOf recording t) (judgeOf sheet t)
+
 -- by the verdict on a text and its `.ilb` line
 abbrev pub namingFor : Verdict → Home → Naming
 namingFor (Bad k) h = Refused
 namingFor (Good n) Nowhere = Nameless
 namingFor (Good n) (Stands a e) = Named n a e
 
--- what a text says of names: reading refuses it with 11, it has no name lines, or it names n columns in the line from a to e
+-- what a text says of names: both readers refuse it with 11, it has no name lines, or it names n columns in the line from a to e
 unfoldable pub namingOf : List ℕ → Naming
-namingOf t = namingFor (judgeOf recording t) (homeOf t)
+namingOf t = namingFor (judgeEither t) (homeOf t)
 
 -- ---- two texts
 

@@ -14,7 +14,7 @@ ghost use Rattle.headers.specs.Accepted.{isHeader};
 ghost use Rattle.headers.specs.Places.{isAside};
 ghost use Rattle.headers.specs.declared.Header.the-variants.{Names};
 ghost use Rattle.headers.specs.declared.Verdict.the-variants.{Good};
-ghost use Rattle.naming.specs.Naming.{homeOf, namingFor, namingOf, makersSource, sourceOf, noName, spotIn, spotOf, Within, PartOf};
+ghost use Rattle.naming.specs.Naming.{homeOf, judgeEither, namingFor, namingOf, makersSource, sourceOf, noName, spotIn, spotOf, Within, PartOf};
 ghost use Rattle.naming.specs.Columns.{lineIn, nameLine};
 
 // Where the `.ilb` line of a text stands.
@@ -23,7 +23,7 @@ pub enum Home {
     Nowhere,
 }
 
-// What a text says of names: reading refuses it with 11, it has no name lines, or it names so many columns in the line between two places.
+// What a text says of names: both readers refuse it with 11, it has no name lines, or it names so many columns in the line between two places.
 pub enum Naming {
     Refused,
     Nameless,
@@ -108,11 +108,21 @@ fn named_by(n: u32, h: Home) -> Naming
     }
 }
 
+// The verdict on a text of either kind.
+fn judge_either(text: &[u8]) -> Verdict
+    ensures { λ r. ⌜ r ≡ judgeEither (now (text .entry)) ⌝ }
+{
+    let v = judging::judge(judging::recording_layout(), text);
+    match v {
+        Verdict::Good(n) => Verdict::Good(n),
+        Verdict::Bad(_) => judging::judge(judging::sheet_layout(), text),
+    }
+}
+
 fn naming_of(text: &[u8]) -> Naming
     ensures { λ r. ⌜ r ≡ namingOf (now (text .entry)) ⌝ }
 {
-    let lay = headers::recording_layout();
-    let v = headers::judge(lay, text);
+    let v = judge_either(text);
     match v {
         Verdict::Good(n) => named_by(n, find_home(text)),
         Verdict::Bad(_) => Naming::Refused,

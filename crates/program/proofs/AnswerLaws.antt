@@ -17,8 +17,8 @@ use Rattle.headers.specs.Places.{Place}
 use Rattle.headers.specs.declared.Verdict.{Verdict}
 use Rattle.headers.specs.declared.Verdict.the-variants.{Good, Bad}
 use Rattle.headers.proofs.PlaceLaws.{bad-iff-place}
-use Rattle.recording.specs.Rows.{textWords}
-use Rattle.recording.specs.Reading.{refusal, answerFor, readAnswer, readList}
+use Rattle.reading.specs.Rows.{textWords}
+use Rattle.reading.specs.Reading.{refusal, answerFor, readAnswer, readList, laidAnswer}
 use Rattle.learning.specs.Learn.{Run, going, refused, reproduced, learnEnd, learnRun, runIf}
 use Rattle.learning.proofs.Ways.{Opening, two, nine-at-once, opened, Way, six, passed-over, seven, eight, nine, taken-up, run-keeps}
 use Rattle.writing.specs.SheetText.{sheetText}
@@ -40,7 +40,7 @@ place-small t k e = go (bad-iff-place recording t k .0 e)
     go (inr (inr f)) = omega (arith, f .number, lines-few t, ap length (f .lines), length-append (f .before) (f .line ∷ f .after))
 
 read-small : (t : List ℕ) (room : ℕ) → (readAnswer t room .code ≤ 11) × (readAnswer t room .place ≤ length t + 1)
-unfolding readAnswer
+unfolding laidAnswer
 read-small t room = go (judgeOf recording t) refl
   where
     good : (n k : ℕ) (b : Bool) → ((cond b (record { code = 0; place = 0; n = n; count = k }) (refusal 8 0)) .code ≤ 11)

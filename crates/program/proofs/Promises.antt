@@ -8,7 +8,7 @@ use native.Mathlib.Nat.{mul-le-mul}
 use lib.Dec.{leb}
 use lib.ListN.{length, take}
 use borrow.Author.Tests.{le-ltb, leb-true}
-use Rattle.recording.specs.Reading.{readAnswer, readList}
+use Rattle.reading.specs.Reading.{readAnswer, readList}
 use Rattle.learning.specs.Learn.{Run, going, refused, runIf}
 use Rattle.writing.specs.SheetText.{sheetText}
 use Rattle.names.proofs.Meaning.{spaced-short}

@@ -15,9 +15,9 @@ use Rattle.headers.specs.Layouts.{recording}
 use Rattle.headers.specs.Verdicts.{judgeOf}
 use Rattle.headers.specs.declared.Verdict.{Verdict}
 use Rattle.headers.specs.declared.Verdict.the-variants.{Good, Bad}
-use Rattle.recording.specs.Rows.{textWords}
-use Rattle.recording.specs.Reading.{refusal, answerFor, readAnswer, readList, Reads}
-use Rattle.recording.specs.declared.ReadAnswer.{ReadAnswer}
+use Rattle.reading.specs.Rows.{textWords}
+use Rattle.reading.specs.Reading.{refusal, answerFor, readAnswer, readList, Reads, laidAnswer}
+use Rattle.reading.specs.declared.ReadAnswer.{ReadAnswer}
 use Rattle.learning.specs.Learn.{Run, going, refused, learnRun, runAnswer, runSheet, Learned, runIf}
 use Rattle.writing.specs.SheetText.{sheetText}
 use Rattle.writing.specs.Writing.{written, Put, writeCode, Writes}
@@ -118,7 +118,7 @@ module _ (n : ℕ) (t ts book sheet out book′ sheet′ : List ℕ) (a : Answer
 
 -- the words read lie in the list
 pub count-within : (t : List ℕ) (room : ℕ) → readAnswer t room .count ≤ room
-unfolding readAnswer
+unfolding laidAnswer
 count-within t room = go (judgeOf recording t)
   where
     many : (ws : List ℕ) (n : ℕ) (b : Bool) → leb (length ws) room ≡ b

@@ -7,7 +7,7 @@ use lib.Dec.{leb, ltb}
 use lib.ListN.{length, take}
 use Rattle.answers.specs.Answers.{refuse, ifDone}
 use Rattle.fields.specs.Decimals.{decimal}
-use Rattle.recording.specs.Reading.{readAnswer, readList}
+use Rattle.reading.specs.Reading.{readAnswer, readList}
 use Rattle.learning.specs.Learn.{Run, going, refused, learnRun, runBook, runSheet, runIf}
 use Rattle.naming.specs.Columns.{namesFor}
 use Rattle.writing.specs.TableText.{headerText}

@@ -60,7 +60,7 @@ pub fn run(
     if 24576 < input.len() {
         return put_refusal(13, 0, output);
     }
-    let read = recording::read(input, list);
+    let read = reading::read(input, list);
     if read.code != 0 {
         return put_refusal(read.code, read.place, output);
     }

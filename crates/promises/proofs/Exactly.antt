@@ -13,8 +13,8 @@ use Rattle.headers.specs.Accepted.{Accepted}
 use Rattle.headers.specs.Places.{Place, Untyped}
 use Rattle.headers.proofs.PlaceLaws.{one-size, one-place, accepted-no-place}
 use Rattle.headers.proofs.TypeLines.{untyped-faulty}
-use Rattle.recording.specs.Rows.{textWords}
-use Rattle.recording.proofs.WordLaws.{read-size, read-valid}
+use Rattle.reading.specs.Rows.{textWords}
+use Rattle.reading.proofs.WordLaws.{read-size, read-valid}
 use Rattle.program.specs.Program.{refusalLine, Runs}
 use Rattle.book.specs.Books.{OneNext}
 use Rattle.handover.specs.Learning.{Learnable, LearnRefused}

@@ -19,7 +19,7 @@ use Rattle.fields.specs.Values.{cubeOf, digits, numberOf}
 use Rattle.fields.specs.Fields.{fieldsFrom, fieldsIn}
 use Rattle.names.specs.Names.{nameByte, allName, nameOk, holds, goodNames, namesCount, sameFields, namesIn}
 use Rattle.names.specs.Spans.{startAt, endAt, spanAt, fieldAt, nameSpan}
-use Rattle.naming.specs.Naming.{homeFrom, homeOf, namingOf, sourceOf, spotOf, nameOf}
+use Rattle.naming.specs.Naming.{homeFrom, homeOf, namingOf, sourceOf, spotOf, nameOf, judgeEither}
 use Rattle.lines.specs.Lines.{otherKey, keyOf, typedOf, rowLine, classOf, ofFields, lineOf}
 use Rattle.headers.specs.Layouts.{recording}
 use Rattle.headers.specs.Accepted.{Accepted}
@@ -28,8 +28,8 @@ use Rattle.headers.specs.Headers.{lacks, lacksNone, readyOf, rowFits, openOf, f
 use Rattle.headers.specs.Verdicts.{finishOf, judgeLines, judgeOf}
 use Rattle.headers.proofs.Accepting.{good-iff-text}
 use Rattle.headers.proofs.PlaceLaws.{one-size, bad-iff-place}
-use Rattle.recording.specs.Rows.{matchesOf, wordsBelow, linesWords, textWords}
-use Rattle.recording.specs.Reading.{readList}
+use Rattle.reading.specs.Rows.{matchesOf, wordsBelow, linesWords, textWords, wordsIn}
+use Rattle.reading.specs.Reading.{readList}
 use Rattle.learning.specs.Learn.{runBook, runSheet}
 use Rattle.writing.specs.Writing.{written}
 use Rattle.program.specs.Program.{tooLong, readingCode, learnedRun, printed, Runs}
@@ -80,7 +80,7 @@ record Texts : Type 0 where
   typeless-bad : Place recording typeless 3
 
 texts : Texts
-unfolding on relays allOn allOff transitionWord markOf run same linesOf body cubeOf digits numberOf fieldsFrom fieldsIn otherKey keyOf typedOf rowLine classOf ofFields lineOf nameByte allName nameOk holds goodNames namesCount sameFields namesIn lacks lacksNone readyOf rowFits openOf fitsOf headerAllowed endAllowed rowAllowed named allowedBy allowedAt nextAt finishOf judgeLines judgeOf matchesOf wordsBelow linesWords textWords
+unfolding on relays allOn allOff transitionWord markOf run same linesOf body cubeOf digits numberOf fieldsFrom fieldsIn otherKey keyOf typedOf rowLine classOf ofFields lineOf nameByte allName nameOk holds goodNames namesCount sameFields namesIn lacks lacksNone readyOf rowFits openOf fitsOf headerAllowed endAllowed rowAllowed named allowedBy allowedAt nextAt finishOf judgeLines judgeOf matchesOf wordsBelow linesWords wordsIn
 texts = record {
   two-rows-words = refl;
   one-dash-words = refl;
@@ -142,7 +142,7 @@ same-rows = record {
 
 -- and the same name
 name-same : (v : ℕ) → v < 1 → nameOf two-rows [] v ≡ nameOf one-dash [] v
-unfolding markOf run same linesOf body cubeOf digits numberOf fieldsFrom fieldsIn otherKey keyOf typedOf rowLine classOf ofFields lineOf nameByte allName nameOk holds goodNames namesCount sameFields namesIn startAt endAt spanAt fieldAt nameSpan lacks lacksNone readyOf rowFits openOf fitsOf headerAllowed endAllowed rowAllowed named allowedBy allowedAt nextAt finishOf judgeLines judgeOf homeFrom homeOf namingOf sourceOf spotOf nameOf
+unfolding markOf run same linesOf body cubeOf digits numberOf fieldsFrom fieldsIn otherKey keyOf typedOf rowLine classOf ofFields lineOf nameByte allName nameOk holds goodNames namesCount sameFields namesIn startAt endAt spanAt fieldAt nameSpan lacks lacksNone readyOf rowFits openOf fitsOf headerAllowed endAllowed rowAllowed named allowedBy allowedAt nextAt finishOf judgeLines judgeOf homeFrom homeOf judgeEither namingOf sourceOf spotOf nameOf
 name-same zero l = refl
 name-same (suc v) l = absurd (omega arith)
 

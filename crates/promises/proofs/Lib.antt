@@ -5,3 +5,4 @@ pub mod OneLine
 pub mod Exactly
 pub mod NoRoom
 pub mod Instances
+pub mod BothReaders

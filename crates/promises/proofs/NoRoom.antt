@@ -25,15 +25,17 @@ use Rattle.sessions.specs.Sessions.{totalsFit, sessionAnswer, Starts, Takes}
 use Rattle.sessions.specs.declared.Session.{Session}
 use Rattle.sessions.specs.declared.Outcome.{Outcome}
 use Rattle.lent.specs.Lent.{TakesLent}
-use Rattle.headers.specs.Layouts.{recording}
+use Rattle.headers.specs.Layouts.{recording, sheet}
 use Rattle.headers.specs.Accepted.{Accepted}
 use Rattle.headers.specs.Verdicts.{judgeOf}
 use Rattle.headers.proofs.Accepting.{good-iff-text}
 use Rattle.headers.specs.declared.Verdict.{Verdict}
 use Rattle.headers.specs.declared.Verdict.the-variants.{Good, Bad}
-use Rattle.recording.specs.Rows.{textWords}
-use Rattle.recording.specs.Reading.{refusal, answerFor, readAnswer, Reads}
-use Rattle.recording.specs.declared.ReadAnswer.{ReadAnswer}
+use Rattle.reading.specs.Rows.{textWords, sheetWords}
+use Rattle.returned.specs.Returned.{sheetAnswerFor, sheetAnswer, ReadsSheet}
+use Rattle.sorting.specs.Orders.{sorted}
+use Rattle.reading.specs.Reading.{refusal, answerFor, Reads, laidAnswer}
+use Rattle.reading.specs.declared.ReadAnswer.{ReadAnswer}
 use Rattle.naming.specs.Columns.{namesFor}
 use Rattle.writing.specs.SheetText.{sheetText}
 use Rattle.writing.specs.Writing.{writeCode, Writes}
@@ -43,7 +45,7 @@ use Rattle.program.specs.Program.{Runs}
 use Rattle.handover.specs.Learning.{invalid, contradicted, book-full, sheet-full, LearnRefused, no-panel, no-room, at-word}
 use Rattle.handover.proofs.Learning.{refused-exactly}
 use Rattle.handover.proofs.LearnInstances.{instances}
-use Rattle.promises.specs.NoRoom.{FreshNine, TakeEight, TakeNine, SessionEight, SessionNine, BookFull, SheetFull, LearnEight, LearnNine, JoinEight, JoinNine, ReadEight, WriteTwelve, RunEight, RunNine, RunTwelve}
+use Rattle.promises.specs.NoRoom.{FreshNine, TakeEight, TakeNine, SessionEight, SessionNine, BookFull, SheetFull, LearnEight, LearnNine, JoinEight, JoinNine, ReadEight, SheetReadEight, WriteTwelve, RunEight, RunNine, RunTwelve}
 use Rattle.promises.specs.Printed.{Recorded, Refused, too-long, faulty, too-many, contradicted as told-twice, too-large, Rooms}
 use Rattle.promises.proofs.Exactly.{refusal-exactly}
 use Rattle.inner.specs.Booking.{bookingCode, innerCode}
@@ -347,24 +349,45 @@ module _ {n : ℕ} {a b : Piece} {book sheet book′ sheet′ : List ℕ} {r : A
 
 -- ---- text
 
-read-ladder : (v : Verdict) (ws : List ℕ) (room : ℕ) → (answerFor v ws room .code ≡ 8) ↔ (((n : ℕ) × (v ≡ Good n)) × (room < length ws))
-read-ladder (Bad k) ws room = (λ e. absurd (omega (arith, e)), λ f. absurd (never (f .0 .0) (f .0 .1)))
+-- 8 of a text that is bad: never
+bad-ladder : (k : ℕ) (ws : List ℕ) (room : ℕ) → (refusal 11 k .code ≡ 8) ↔ (((n : ℕ) × (Bad k ≡ Good n)) × (room < length ws))
+bad-ladder k ws room = (λ e. absurd (omega (arith, e)), λ f. absurd (never (f .0 .0) (f .0 .1)))
   where
     never : (n : ℕ) → Bad k ≡ Good n → ⊥
     never n e = let z : _≡_ {A = ℕ} 0 1 = cc in omega arith
-read-ladder (Good n) ws room = go (leb (length ws) room) refl
+
+-- of a good one: exactly where its words are more than the room, if what is answered else is no 8
+good-ladder : (n : ℕ) (ws : List ℕ) (room : ℕ) (d : ReadAnswer) → (d .code ≡ 8 → ⊥) → (b : Bool) → leb (length ws) room ≡ b
+    → ((cond b d (refusal 8 0)) .code ≡ 8) ↔ (((m : ℕ) × (Good n ≡ Good m)) × (room < length ws))
+good-ladder n ws room d other true e = (λ q. absurd (other q), λ f. absurd (omega (arith, f .1, leb-true (length ws) room e)))
+good-ladder n ws room d other false e = (λ q. ((n, refl), leb-false (length ws) room e), λ f. refl)
+
+read-ladder : (v : Verdict) (ws : List ℕ) (room : ℕ) → (answerFor v ws room .code ≡ 8) ↔ (((n : ℕ) × (v ≡ Good n)) × (room < length ws))
+read-ladder (Bad k) ws room = bad-ladder k ws room
+read-ladder (Good n) ws room = good-ladder n ws room (record { code = 0; place = 0; n = n; count = length ws }) (λ q. omega (arith, q)) (leb (length ws) room) refl
+
+sheet-ladder : (v : Verdict) (ws : List ℕ) (room : ℕ) → (sheetAnswerFor v ws room .code ≡ 8) ↔ (((n : ℕ) × (v ≡ Good n)) × (room < length ws))
+sheet-ladder (Bad k) ws room = bad-ladder k ws room
+sheet-ladder (Good n) ws room = good-ladder n ws room _ (five (goodSheet n (sorted ws))) (leb (length ws) room) refl
   where
-    go : (b : Bool) → leb (length ws) room ≡ b
-        → ((cond b (record { code = 0; place = 0; n = n; count = length ws }) (refusal 8 0)) .code ≡ 8) ↔ (((m : ℕ) × (Good n ≡ Good m)) × (room < length ws))
-    go true e = (λ q. absurd (omega (arith, q)), λ f. absurd (omega (arith, f .1, leb-true (length ws) room e)))
-    go false e = (λ q. ((n, refl), leb-false (length ws) room e), λ f. refl)
+    five : (g : Bool) → (cond g (record { code = 0; place = 0; n = n; count = length ws }) (refusal 5 0)) .code ≡ 8 → ⊥
+    five true q = omega (arith, q)
+    five false q = omega (arith, q)
 
 pub read-eight : {t list list′ : List ℕ} {r : ReadAnswer} → Reads t list list′ r → ReadEight t list r
-unfolding readAnswer
+unfolding laidAnswer
 read-eight {t = t} {list = list} q =
     let ladder = coded (ap (λ (a : ReadAnswer). a .code) (q .answer)) (read-ladder (judgeOf recording t) (textWords t) (length list)) in (
       λ e. let k = ladder .0 e in ((k .0 .0, good-iff-text recording t (k .0 .0) .0 (k .0 .1)), k .1),
       λ k. ladder .1 ((k .0 .0, good-iff-text recording t (k .0 .0) .1 (k .0 .1)), k .1),
+    )
+
+pub sheet-read-eight : {t words words′ : List ℕ} {r : ReadAnswer} → ReadsSheet t words words′ r → SheetReadEight t words r
+unfolding sheetAnswer
+sheet-read-eight {t = t} {words = words} q =
+    let ladder = coded (ap (λ (a : ReadAnswer). a .code) (q .answer)) (sheet-ladder (judgeOf sheet t) (sheetWords t) (length words)) in (
+      λ e. let k = ladder .0 e in ((k .0 .0, good-iff-text sheet t (k .0 .0) .0 (k .0 .1)), k .1),
+      λ k. ladder .1 ((k .0 .0, good-iff-text sheet t (k .0 .0) .1 (k .0 .1)), k .1),
     )
 
 module _ (n : ℕ) (names : List (List ℕ)) (sheet : List ℕ) (count room : ℕ) where

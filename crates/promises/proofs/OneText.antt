@@ -10,12 +10,15 @@ use Rattle.table.proofs.Increasing.{increasing-unique}
 use Rattle.panel.specs.Rules.{head, validRule}
 use Rattle.prime.proofs.Apply.{negative-e, negative-i}
 use Rattle.naming.specs.Columns.{columnNames, allNamed, namesFor}
+use Rattle.lines.specs.declared.Kind.the-variants.{Recording}
+use Rattle.headers.specs.Layouts.{recording}
 use Rattle.naming.specs.Answers.{WithNames, WithoutNames}
-use Rattle.naming.proofs.ColumnLaws.{written-good}
 use Rattle.naming.proofs.Request.{own-written, none-written}
 use Rattle.naming.proofs.Instances.{empty-bad}
 use Rattle.writing.specs.SheetText.{sheetText}
-use Rattle.writing.proofs.OneText.{text-unique}
+use Rattle.reading.proofs.WordLaws.{read-size}
+use Rattle.roundtrip.proofs.NameLaws.{labels}
+use Rattle.roundtrip.proofs.OneText.{text-unique}
 use Rattle.prime.specs.Primes.{Consistent, Prime}
 use Rattle.program.specs.Program.{ownNames}
 use Rattle.promises.specs.Printed.{SameRows, SameNames, SheetPrinted}
@@ -46,8 +49,8 @@ names-same t u n h = ap (λ (ws : List (List ℕ)). cond (allNamed ws) ws []) (c
 
 -- the two lines of a printed sheet have the names of its recording; they are not there where it has none
 pub names-printed : {t out o : List ℕ} {r : ℕ} (p : SheetPrinted t out o r)
-    → (WithNames (p .n) t (p .recorded .good) → ownNames t (p .n) ≡ p .recorded .good .names) × (WithoutNames (p .n) t (p .recorded .good) → ownNames t (p .n) ≡ [])
-names-printed {t = t} p = (own-written t [] (p .n) (p .recorded .good), λ w. none-written t [] (p .n) (p .recorded .good) w empty-bad (p .n))
+    → (WithNames recording (p .n) t (p .recorded .good) → ownNames t (p .n) ≡ p .recorded .good .names) × (WithoutNames recording (p .n) t (p .recorded .good) → ownNames t (p .n) ≡ [])
+names-printed {t = t} p = (own-written Recording t [] (p .n) (p .recorded .good), λ w. none-written Recording t [] (p .n) (p .recorded .good) w empty-bad (p .n))
 
 -- two texts of one panel size with the same names whose rows stand for the same transitions, both answered with a sheet: the same bytes are printed
 pub one-text : {t u out out₁ o o₁ : List ℕ} {r r₁ : ℕ} (p : SheetPrinted t out o r) (q : SheetPrinted u out₁ o₁ r₁) → p .n ≡ q .n → SameNames (p .n) t u → SameRows t u → (r ≡ r₁) × (take r o ≡ take r₁ o₁)
@@ -74,8 +77,8 @@ one-text {t = t} {u = u} p q e h f = (p .prints .long ∙ ap length texts ∙ sy
 pub one-sheet : {t u out out₁ o o₁ : List ℕ} {r r₁ : ℕ} (p : SheetPrinted t out o r) (q : SheetPrinted u out₁ o₁ r₁) → take r o ≡ take r₁ o₁
     → (p .n ≡ q .n) × (ownNames t (p .n) ≡ ownNames u (q .n)) × (p .s ≡ q .s)
 one-sheet {t = t} {u = u} p q e =
-    text-unique (p .n) (q .n) (ownNames t (p .n)) (ownNames u (q .n)) (p .s) (q .s)
-    (written-good t [] (p .n)) (written-good u [] (q .n))
+    text-unique (p .n) (q .n) (read-size t (p .n) (p .recorded .good)) (read-size u (q .n) (q .recorded .good)) (ownNames t (p .n)) (ownNames u (q .n))
+    (labels t [] (p .n)) (labels u [] (q .n)) (p .s) (q .s)
     (all-i (validRule (p .n)) (p .s) (λ w m. p .only-prime w m .is-rule))
     (all-i (validRule (q .n)) (q .s) (λ w m. q .only-prime w m .is-rule))
     (sym (p .prints .text) ∙ e ∙ q .prints .text)

@@ -19,9 +19,9 @@ use Rattle.headers.specs.declared.Verdict.{Verdict}
 use Rattle.headers.specs.declared.Verdict.the-variants.{Good, Bad}
 use Rattle.headers.proofs.Accepting.{good-iff-text}
 use Rattle.headers.proofs.PlaceLaws.{bad-iff-place}
-use Rattle.recording.specs.Rows.{textWords}
-use Rattle.recording.specs.Reading.{refusal, answerFor, listFor, readAnswer, readList}
-use Rattle.recording.proofs.WordLaws.{read-size, read-valid}
+use Rattle.reading.specs.Rows.{textWords}
+use Rattle.reading.specs.Reading.{refusal, answerFor, listFor, readAnswer, readList, laidAnswer, laidList}
+use Rattle.reading.proofs.WordLaws.{read-size, read-valid}
 use Rattle.learning.specs.Learn.{Run, going, refused, learnRun, runAnswer, runBook, runSheet, runIf}
 use Rattle.writing.specs.SheetText.{sheetText}
 use Rattle.writing.specs.Writing.{written}
@@ -106,7 +106,7 @@ module _ (t : List ℕ) where
           refused-says n c p as-read q (learn-ended n (read-size t n f) (textWords t) (read-valid t n f) k q)
 
   run-says : Says t (readAnswer t 1024 .n) (runIf (readingCode t 1024) (learnedRun t 1024 1024 1024) (readingPlace t 1024))
-  unfolding readingCode readingPlace learnedRun readAnswer readList filled
+  unfolding readingCode readingPlace learnedRun laidAnswer laidList filled
   run-says = go (tooLong t) (judgeOf recording t) refl refl
     where
       fit : (n : ℕ) → length t ≤ 24576 → Accepted recording n t → (c : Bool) → leb (length (textWords t)) 1024 ≡ c

@@ -14,10 +14,10 @@ use Rattle.calls.specs.Take.{givenCode, entryCode}
 use Rattle.joining.specs.Joining.{Piece, bookIn, joinedBook, joinedSheet, GoodPieces}
 use Rattle.sessions.specs.declared.Session.{Session}
 use Rattle.sessions.specs.Sessions.{totalsFit}
-use Rattle.headers.specs.Layouts.{recording}
+use Rattle.headers.specs.Layouts.{recording, sheet}
 use Rattle.headers.specs.Accepted.{Accepted}
-use Rattle.recording.specs.Rows.{textWords}
-use Rattle.recording.specs.declared.ReadAnswer.{ReadAnswer}
+use Rattle.reading.specs.Rows.{textWords, sheetWords}
+use Rattle.reading.specs.declared.ReadAnswer.{ReadAnswer}
 use Rattle.naming.specs.Columns.{namesFor}
 use Rattle.writing.specs.SheetText.{sheetText}
 use Rattle.writing.specs.declared.WriteAnswer.{WriteAnswer}
@@ -97,6 +97,10 @@ JoinNine n a b book sheet r =
 -- reading, 8: the layout is good, and the list read from the text needs more words than its slice
 abbrev pub ReadEight : List ℕ → List ℕ → ReadAnswer → Type 0
 ReadEight t list r = (r .code ≡ 8) ↔ (((n : ℕ) × Accepted recording n t) × (length list < length (textWords t)))
+
+-- reading a sheet, 8: the layout is good, and the rows, as they are written, are more than the slice has words
+abbrev pub SheetReadEight : List ℕ → List ℕ → ReadAnswer → Type 0
+SheetReadEight t words r = (r .code ≡ 8) ↔ (((n : ℕ) × Accepted sheet n t) × (length words < length (sheetWords t)))
 
 -- writing, 12: none of 2, 3 and 5 applies, and the written text is longer than its slice
 abbrev pub WriteTwelve : ℕ → List ℕ → ℕ → List ℕ → List ℕ → List ℕ → WriteAnswer → Type 0

@@ -8,7 +8,7 @@ use Rattle.table.specs.Lists.{increasing}
 use Rattle.headers.specs.Layouts.{recording}
 use Rattle.headers.specs.Accepted.{Accepted}
 use Rattle.headers.specs.Places.{Place}
-use Rattle.recording.specs.Rows.{textWords}
+use Rattle.reading.specs.Rows.{textWords}
 use Rattle.naming.specs.Naming.{nameOf}
 use Rattle.writing.specs.SheetText.{sheetText}
 use Rattle.program.specs.Program.{refusalLine, ownNames}

@@ -18,8 +18,9 @@ use Rattle.lent.specs.Lent.{TakesLent}
 use denote.Ref.{RefT, now}
 use Rattle.naming.specs.Naming.{spotOf, PartOf}
 use Rattle.naming.specs.declared.Spot.{Spot}
-use Rattle.recording.specs.Reading.{Reads}
-use Rattle.recording.specs.declared.ReadAnswer.{ReadAnswer}
+use Rattle.reading.specs.Reading.{Reads}
+use Rattle.reading.specs.declared.ReadAnswer.{ReadAnswer}
+use Rattle.returned.specs.Returned.{ReadsSheet}
 use Rattle.writing.specs.Writing.{Writes}
 use Rattle.writing.specs.declared.WriteAnswer.{WriteAnswer}
 use Rattle.program.specs.Program.{Runs}
@@ -35,6 +36,7 @@ pub data Call : Type 0 where
   session-take : (s : Session) (book sheet : List ℕ) (i j : ℕ) → Call
   session-take-lent : (s : Session) (book sheet : List ℕ) (i j : ℕ) → Call
   read : (text list : List ℕ) → Call
+  read-sheet : (text words : List ℕ) → Call
   find-name : (panel maker : List ℕ) (column : ℕ) → Call
   lookup : (panel maker : RefT (List ℕ)) (column : ℕ) → Call
   write-sheet : (n : ℕ) (sheet : List ℕ) (count : ℕ) (panel maker out : List ℕ) → Call
@@ -51,6 +53,7 @@ Result (session-start n sheet) = Outcome × List ℕ
 Result (session-take s book sheet i j) = Outcome × List ℕ × List ℕ
 Result (session-take-lent s book sheet i j) = Answer × Session × List ℕ × List ℕ
 Result (read text list) = ReadAnswer × List ℕ
+Result (read-sheet text words) = ReadAnswer × List ℕ
 Result (find-name panel maker column) = Spot
 Result (lookup panel maker column) = List ℕ × ℕ × ℕ
 Result (write-sheet n sheet count panel maker out) = WriteAnswer × List ℕ
@@ -67,6 +70,7 @@ Contract (session-start n sheet) r = Starts n sheet (r .1) (r .0)
 Contract (session-take s book sheet i j) r = Takes s book sheet i j (r .1) (r .2) (r .0)
 Contract (session-take-lent s book sheet i j) r = TakesLent s book sheet i j (r .1) (r .2) (r .3) (r .0)
 Contract (read text list) r = Reads text list (r .1) (r .0)
+Contract (read-sheet text words) r = ReadsSheet text words (r .1) (r .0)
 Contract (find-name panel maker column) r = r ≡ spotOf panel maker column
 Contract (lookup panel maker column) r = PartOf panel maker (spotOf (now panel) (now maker) column) (r .0) (r .1) (r .2)
 Contract (write-sheet n sheet count panel maker out) r = Writes n sheet count panel maker out (r .1) (r .0)

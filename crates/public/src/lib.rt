@@ -2,12 +2,12 @@
 use answers::Answer;
 use calls::Applied;
 use naming::Spot;
-use recording::ReadAnswer;
+use reading::ReadAnswer;
 use sessions::Outcome;
 use sessions::Session;
 use writing::WriteAnswer;
 ghost use Rattle.joining.specs.Joining.{piece};
-ghost use Rattle.public.specs.PublicCalls.{fresh, take, learn, join, apply, session-start, session-take, session-take-lent, read, find-name, lookup, write-sheet, run, Contract};
+ghost use Rattle.public.specs.PublicCalls.{fresh, take, learn, join, apply, session-start, session-take, session-take-lent, read, read-sheet, find-name, lookup, write-sheet, run, Contract};
 ghost use denote.Ref.{ptr};
 
 // Writes the fresh sheet: n rules with empty bodies.
@@ -114,7 +114,14 @@ pub fn session_take_lent(
 pub fn read(text: &[u8], list: &mut [u32]) -> ReadAnswer
     ensures { λ r. ⌜ Contract (read (now (text .entry)) (now (list .entry))) (r, now (list .exit)) ⌝ }
 {
-    recording::read(text, list)
+    reading::read(text, list)
+}
+
+// Reads a sheet's text into rule words, in increasing order.
+pub fn read_sheet(text: &[u8], words: &mut [u32]) -> ReadAnswer
+    ensures { λ r. ⌜ Contract (read-sheet (now (text .entry)) (now (words .entry))) (r, now (words .exit)) ⌝ }
+{
+    returned::read_sheet(text, words)
 }
 
 // Where the name of a column stands: in the panel's text, or else in the maker's.

@@ -2,5 +2,4 @@ pub mod PutLaws
 pub mod NameLines
 pub mod TextLaws
 pub mod WriteLaws
-pub mod OneText
 pub mod Examples

@@ -1,8 +1,10 @@
-//! The examples of document 01 as requests, names, and texts with no type line.
+//! The examples of document 01 as requests, names, texts with no type line, and sheets that come
+//! back.
 
 use super::requests::made;
 use crate::desk::{
-    Request, APPLY, FRESH, JOIN, LEARN, LOOKUP, READ, RUN, SESSION_START, SESSION_TAKE, TAKE, WRITE,
+    Request, APPLY, FRESH, JOIN, LEARN, LOOKUP, READ, READ_SHEET, RUN, SESSION_START, SESSION_TAKE,
+    TAKE, WRITE,
 };
 use crate::text::{MOST_INPUT, PROGRAM_BYTES, PROGRAM_WORDS};
 
@@ -14,14 +16,23 @@ const NAMED: &str = ".i 3\n.o 3\n.ilb PUMP Valve_2 f\n.ob PUMP Valve_2 f\n.type 
 /// With names, and accepted but for the type line that it lacks.
 const UNTYPED: &str = ".i 3\n.o 3\n.ilb PUMP Valve_2 f\n.ob PUMP Valve_2 f\n111 110\n.e\n";
 
+/// What the recording above is learned to.
+const SHEET: &str = ".i 3\n.o 3\n.type f\n.p 3\n-1- 100\n1-1 010\n0-- 001\n.e\n";
+
+/// The same rules otherwise: another order, blanks, comments, and names.
+const NAMED_SHEET: &str = "# site 4\n.type f # type\n.ob x y z\n.o 3\n\n\t.ilb x  y z\n.i 3\n\
+                           0-- \t001\n#\n -1- 100#a\n1-1 010\n.end\n\n";
+
 /// What the output slices hold before a call.
 const RUBBISH: u64 = 77;
 
-/// K1 to K12, the other examples, the recording, the text's edges, the type line, and names.
+/// K1 to K12, the other examples, the recording, the text's edges, the type line, names, and
+/// sheets.
 pub fn examples() -> Vec<Request> {
     let texts = [texts(), texts_about_the_type()].concat();
     let read_and_run = texts.iter().flat_map(|text| read_and_run(text)).collect();
-    [bench_examples(), size_examples(), read_and_run, name_examples()].concat()
+    let names = [name_examples(), name_examples_of_sheets()].concat();
+    [bench_examples(), size_examples(), read_and_run, names, sheet_examples()].concat()
 }
 
 fn rubbish(room: usize) -> Vec<u64> {
@@ -178,6 +189,26 @@ fn name_examples() -> Vec<Request> {
         ".i 3\n.o 3\n.e\n",
         ".i 3\n.o 3\n.ilb a b c\n.ob a b c\n.type f\n.e\n",
     ];
+    beside_every_pair(&texts)
+}
+
+/// The same with sheets among them: with names, without, no good ones, and bad for both readers.
+fn name_examples_of_sheets() -> Vec<Request> {
+    let texts = [
+        NAMED,
+        RECORDING,
+        NAMED_SHEET,
+        SHEET,
+        ".i 2\n.o 2\n.ilb one_rule twice\n.ob one_rule twice\n.type f\n01 10\n01 10\n.e\n",
+        ".i 2\n.o 2\n.type f\n-- 10\n01 10\n.e\n",
+        ".p 2\n.i 2\n.o 2\n.ilb a b\n.ob a b\n.type f\n01 10\n.e\n",
+        ".i 2\n.o 2\n.ilb a b\n.ob a b\n.type f\n01 11\n.e\n",
+        ".i 2\n.o 2\n.ilb a b\n.ob a b\n.type f\n.type fr\n01 10\n.e\n",
+    ];
+    beside_every_pair(&texts)
+}
+
+fn beside_every_pair(texts: &[&str]) -> Vec<Request> {
     let mut requests = Vec::new();
     for panel in texts {
         for maker in texts {
@@ -192,4 +223,48 @@ fn name_examples() -> Vec<Request> {
         }
     }
     requests
+}
+
+/// Every sheet text by both readers and the program, in exactly the room of the longest, one word
+/// less, and more.
+fn sheet_examples() -> Vec<Request> {
+    let long = "#".repeat(MOST_INPUT + 1);
+    let texts = [sheet_texts(), vec![format!("{NAMED_SHEET}{long}")]].concat();
+    let read_sheet =
+        |text: &String, room: usize| made(READ_SHEET, vec![], vec![bytes(text), rubbish(room)]);
+    let of_text = |text: &String| {
+        let rooms = [0, 2, 3, 10].map(|room| read_sheet(text, room));
+        [rooms.to_vec(), read_and_run(text).to_vec()].concat()
+    };
+    texts.iter().flat_map(of_text).collect()
+}
+
+fn sheet_texts() -> Vec<String> {
+    let texts = [
+        SHEET,
+        NAMED_SHEET,
+        RECORDING,
+        "",
+        ".type f\n.o 1\n.i 1\n.e",
+        ".i 1\n.o 1\n.type f\n.p 2\n1 1\n0 1\n.e\n",
+        // A row twice; one body within another, of one head and of two; the number of rows.
+        ".i 2\n.o 2\n.type f\n.p 2\n01 10\n01 10\n.e\n",
+        ".i 2\n.o 2\n.type f\n01 10\n10 01\n-1 10\n.e\n",
+        ".i 2\n.o 2\n.type f\n01 10\n-1 01\n.e\n",
+        ".i 2\n.o 2\n.type f\n.p 1\n01 10\n01 10\n.e\n",
+        // Two heads, none, a dash; the type line missing, late, twice, or the other.
+        ".i 2\n.o 2\n.type f\n01 10\n01 11\n.e\n",
+        ".i 2\n.o 2\n.type f\n01 00\n.e\n",
+        ".i 2\n.o 2\n.type f\n01 1-\n.e\n",
+        ".i 2\n.o 2\n01 10\n.e\n",
+        ".i 2\n.o 2\n.e\n",
+        ".i 2\n.o 2\n01 10\n.type f\n.e\n",
+        ".i 2\n.type f\n.o 2\n.type f\n01 10\n.e\n",
+        ".i 2\n.type f\n.o 2\n.type fr\n01 10\n.e\n",
+        ".i 2\n.o 2\n.type fr\n01 10\n.e\n",
+        ".i 2\n.o 2\n.type f\n01 10\n",
+        ".i 2\n.o 2\n.type f\n.ilb a b\n01 10\n.e\n",
+        ".i 2\n.o 2\n.type f\n.ilb a b\n.ob b a\n01 10\n.e\n",
+    ];
+    texts.map(str::to_string).to_vec()
 }

@@ -3,8 +3,8 @@
 use super::dice::Dice;
 use super::requests::made;
 use crate::desk::{
-    Request, APPLY, FRESH, JOIN, LEARN, LOOKUP, MOST_BYTES, MOST_WORDS, READ, SESSION_TAKE, TAKE,
-    WRITE,
+    Request, APPLY, FRESH, JOIN, LEARN, LOOKUP, MOST_BYTES, MOST_WORDS, READ, READ_SHEET,
+    SESSION_TAKE, TAKE, WRITE,
 };
 use crate::panel::{Transition, MOST_RELAYS};
 use crate::sheets::{sheet_after_take, sheet_of_join, sheet_of_set};
@@ -25,6 +25,7 @@ pub fn large() -> Vec<Request> {
         takes(&set[..40], last),
         joins(first, second),
         applied_and_written(&set[..12]),
+        read_back(&mut dice, &set),
         vec![elementary(110), elementary(30)],
         longest(),
         longest_texts(),
@@ -123,11 +124,45 @@ fn applied_and_written(set: &[Transition]) -> Vec<Request> {
     requests
 }
 
-/// A recording of ten relays whose names have 16 characters.
-fn named_recording() -> Vec<u8> {
+/// A sheet as it was written, and shuffled with names: read, looked up in, and spoiled by a row that
+/// stands twice or lies within another.
+fn read_back(dice: &mut Dice, set: &[Transition]) -> Vec<Request> {
+    let sheet = sheet_of_set(N as u32, set).words();
+    let written = sheet_text(N as u32, &sheet, b"", b"");
+    let (headers, rows) = written.split_at(written.find(".p ").expect("the number of rows"));
+    let mut rows: Vec<&str> = rows.lines().skip(1).filter(|row| *row != ".e").collect();
+    dice.shuffle(&mut rows);
+    let text = |rows: &[&str]| format!("{headers}{}{}\n.e\n", name_lines(), rows.join("\n"));
+    let shuffled = text(&rows);
+    let read_sheet = |text: &str, room: usize| {
+        made(READ_SHEET, vec![], vec![bytes(text.as_bytes()), rubbish(room)])
+    };
+    let need = rows.len();
+    let mut requests = vec![read_sheet(&written, need)];
+    requests.extend([need, need - 1, need + 9].map(|room| read_sheet(&shuffled, room)));
+    // The last row has contacts, as all have: each relay is off after some recorded state.
+    let last = rows[need - 1];
+    for other in [last.to_string(), last.replacen(['0', '1'], "-", 1)] {
+        let spoiled = text(&[&[other.as_str()], &rows[..]].concat());
+        requests.extend([need + 1, need].map(|room| read_sheet(&spoiled, room)));
+    }
+    let lookup =
+        |panel: &[u8], maker: &[u8]| made(LOOKUP, vec![N - 1], vec![bytes(panel), bytes(maker)]);
+    requests.push(lookup(shuffled.as_bytes(), b""));
+    requests.push(lookup(written.as_bytes(), shuffled.as_bytes()));
+    requests
+}
+
+/// Both name lines of ten relays whose names have 16 characters.
+fn name_lines() -> String {
     let names: Vec<String> = (0..N).map(|relay| format!(" VALVE_OF_TANK_{relay:02}")).collect();
     let names = names.concat();
-    let headers = format!(".i 10\n.o 10\n.ilb{names}\n.ob{names}\n.type fr\n");
+    format!(".ilb{names}\n.ob{names}\n")
+}
+
+/// A recording of ten relays with names.
+fn named_recording() -> Vec<u8> {
+    let headers = format!(".i 10\n.o 10\n{}.type fr\n", name_lines());
     format!("{headers}1111111111 0000000000\n.e\n").into_bytes()
 }
 
@@ -149,18 +184,23 @@ fn elementary(rule: u64) -> Request {
     made(LEARN, vec![N], vec![words, rubbish(1_024), rubbish(4_096)])
 }
 
-/// Slices as long as they may be; and rows that stand for 1,024 states.
+/// Slices as long as they may be, and a sheet with one row more; and rows that stand for 1,024
+/// states.
 fn longest() -> Vec<Request> {
     let most = MOST_WORDS as usize;
     let row = b"---------- 1010101010\n";
     let text = bytes(&[&b".i 10\n.o 10\n.type fr\n"[..], row, row, b".e\n"].concat());
+    let rule = "---------- 0000000001\n".repeat(most + 1);
+    let rules = bytes(format!(".i 10\n.o 10\n.type f\n{rule}.e\n").as_bytes());
     let comment: Vec<u64> = vec![u64::from(b'#'); MOST_BYTES as usize];
     vec![
         made(FRESH, vec![N], vec![rubbish(most)]),
         made(LEARN, vec![N], vec![vec![0; most], rubbish(most), rubbish(most)]),
         made(READ, vec![], vec![text.clone(), rubbish(2_048)]),
         made(READ, vec![], vec![text, rubbish(2_047)]),
-        made(READ, vec![], vec![comment, rubbish(most)]),
+        made(READ, vec![], vec![comment.clone(), rubbish(most)]),
+        made(READ_SHEET, vec![], vec![comment, rubbish(most)]),
+        made(READ_SHEET, vec![], vec![rules, rubbish(most)]),
         made(WRITE, vec![N, 0], vec![rubbish(most), vec![], vec![], rubbish(most)]),
     ]
 }

@@ -1,7 +1,9 @@
 //! Panels, transitions, books, sheets and rooms to lend, good and spoiled.
 
 use super::dice::Dice;
-use crate::panel::{all_on, body_count, state_count, Body, Rule, Transition, HEAD_STEP};
+use crate::panel::{
+    all_on, body_count, state_count, Body, Rule, Transition, HEAD_STEP, MOST_RELAYS,
+};
 
 /// A panel's size, mostly small so that brute force stays quick.
 pub fn relays(dice: &mut Dice) -> u32 {
@@ -17,6 +19,11 @@ pub fn relays(dice: &mut Dice) -> u32 {
         96 => 9,
         _ => 10,
     }
+}
+
+/// Any panel's size, the large ones as often as the small, where nothing is learned.
+pub fn any_size(dice: &mut Dice) -> u32 {
+    1 + dice.below(u64::from(MOST_RELAYS)) as u32
 }
 
 /// A size that makes no panel; some would shift a 32- or 64-bit word out of its width.
@@ -175,7 +182,7 @@ pub fn spoil_sheet(dice: &mut Dice, n: u32, sheet: &mut Vec<u32>) {
 }
 
 /// Adds a rule whose body has one contact more or fewer than that of the rule at the place.
-fn add_neighbour(dice: &mut Dice, n: u32, sheet: &mut Vec<u32>, place: usize) {
+pub fn add_neighbour(dice: &mut Dice, n: u32, sheet: &mut Vec<u32>, place: usize) {
     let Some(mut rule) = Rule::from_word(n, sheet[place]) else {
         return;
     };

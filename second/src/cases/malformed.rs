@@ -8,7 +8,7 @@ pub fn malformed() -> Vec<Vec<u64>> {
 }
 
 fn no_such_call() -> Vec<Vec<u64>> {
-    vec![vec![0], vec![12], vec![1 << 32 | 1], vec![u64::MAX]]
+    vec![vec![0], vec![13], vec![1 << 32 | 1], vec![u64::MAX]]
 }
 
 /// Within the numbers, a length, elements, or before a further slice.
@@ -27,6 +27,9 @@ fn cut_short() -> Vec<Vec<u64>> {
         vec![11, u64::MAX, 9],
         vec![11, 0, 2, 46],
         vec![11, 0, 1, 46, 9, 46],
+        vec![12],
+        vec![12, 2, 46],
+        vec![12, 1, 46, 2, 7],
     ]
 }
 
@@ -48,6 +51,8 @@ fn too_large() -> Vec<Vec<u64>> {
         vec![9, 1, 0, 0, 0, 0, 1, 256],
         vec![11, 0, 1, 256, 0],
         vec![11, 0, 0, 1, u64::MAX],
+        vec![12, 1, 256, 0],
+        vec![12, 0, 1, too_wide],
     ]
 }
 
@@ -61,5 +66,7 @@ fn too_long() -> Vec<Vec<u64>> {
         vec![9, 1, 0, 0, MOST_BYTES + 1],
         vec![11, 0, MOST_BYTES + 1],
         vec![11, 0, 0, MOST_BYTES + 1],
+        vec![12, MOST_BYTES + 1],
+        vec![12, 0, MOST_WORDS + 1],
     ]
 }

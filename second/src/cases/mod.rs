@@ -6,6 +6,7 @@ mod large;
 mod lending;
 mod malformed;
 mod requests;
+mod sheet_texts;
 mod texts;
 
 pub use examples::examples;

@@ -2,15 +2,17 @@
 
 use super::dice::Dice;
 use super::lending::{
-    any_good_sheet, book, count_above, enough, lend, lend_bytes, manner, no_panel, relays,
-    room_near, spoil_book, spoil_sheet, successor, transitions, words,
+    any_good_sheet, any_size, book, count_above, enough, lend, lend_bytes, manner, no_panel,
+    relays, room_near, spoil_book, spoil_sheet, successor, transitions, words,
 };
+use super::sheet_texts;
 use super::texts::{lent_text, text};
 use crate::desk::{
-    shape_of, Request, APPLY, FRESH, JOIN, LEARN, LOOKUP, READ, RUN, SESSION_START, SESSION_TAKE,
-    TAKE, WRITE,
+    shape_of, Request, APPLY, FRESH, JOIN, LEARN, LOOKUP, READ, READ_SHEET, RUN, SESSION_START,
+    SESSION_TAKE, TAKE, WRITE,
 };
-use crate::panel::{is_panel, state_count, Transition, MOST_RELAYS, STEP};
+use crate::layout::rules;
+use crate::panel::{is_panel, state_count, Transition, STEP};
 use crate::session::MOST_TOTAL;
 use crate::sheets::{is_good_sheet, sheet_after_take, sheet_of_join, sheet_of_set};
 use crate::text::{read, rulesheet, sheet_text, PROGRAM_BYTES, PROGRAM_WORDS};
@@ -28,6 +30,7 @@ pub fn request(dice: &mut Dice, call: u64) -> Request {
         WRITE => request_write(dice),
         RUN => request_run(dice),
         LOOKUP => request_lookup(dice),
+        READ_SHEET => request_read_sheet(dice),
         _ => unreachable!("a shape has one of these calls"),
     }
 }
@@ -493,7 +496,9 @@ fn request_lookup(dice: &mut Dice) -> Request {
     made(LOOKUP, vec![column], vec![bytes(&panel), bytes(&maker)])
 }
 
-/// Any panel's size, the large ones as often as the small: in a lookup nothing is learned.
-fn any_size(dice: &mut Dice) -> u32 {
-    1 + dice.below(u64::from(MOST_RELAYS)) as u32
+fn request_read_sheet(dice: &mut Dice) -> Request {
+    let text = sheet_texts::sheet_text(dice);
+    let need = rules(&text).map_or(4, |(_, words)| words.len());
+    let room = room_near(dice, need);
+    made(READ_SHEET, vec![], vec![bytes(&text), lend(dice, &[], room)])
 }

@@ -1,18 +1,20 @@
-//! Random recording texts, well made and damaged.
+//! Random recording texts, well made and damaged, and what they have in common with sheet texts.
 
 use super::dice::Dice;
 use super::lending::{manner, relays, successor, transitions};
-use crate::layout::LONGEST_NAME;
+use super::sheet_texts::{sheet_of, sheet_text};
+use crate::layout::{Kind, LONGEST_NAME};
 use crate::panel::{state_count, MOST_RELAYS};
 use crate::text::MOST_INPUT;
 
 /// A random text. If it is to be learned, large panels get few states.
 pub fn text(dice: &mut Dice, to_learn: bool) -> Vec<u8> {
     match dice.below(100) {
-        0..=54 => {
+        0..=50 => {
             let lines = recording(dice, to_learn);
             decorated(dice, &lines)
         }
+        51..=54 => small_sheet(dice),
         55..=74 => {
             let mut lines = recording(dice, to_learn);
             for _ in 0..1 + dice.below(2) {
@@ -29,7 +31,7 @@ pub fn text(dice: &mut Dice, to_learn: bool) -> Vec<u8> {
             text
         }
         85..=91 => {
-            let lines = any_lines(dice);
+            let lines = any_lines(dice, Kind::Recording);
             decorated(dice, &lines)
         }
         92..=93 => any_bytes(dice),
@@ -39,12 +41,19 @@ pub fn text(dice: &mut Dice, to_learn: bool) -> Vec<u8> {
             let text = decorated(dice, &lines);
             padded(dice, text)
         }
-        _ => conflicting_or_numbered(dice),
+        _ => contradicting_or_numbered(dice, Kind::Recording),
     }
 }
 
+/// A sheet's own text, small: with another type line it might be learned.
+fn small_sheet(dice: &mut Dice) -> Vec<u8> {
+    let (n, named) = (relays(dice).min(6), dice.one_in(3));
+    let lines = sheet_of(dice, n, named);
+    decorated(dice, &lines)
+}
+
 /// Texts with hardly anything in them.
-const SHORT: [&[u8]; 10] = [
+pub const SHORT: [&[u8]; 12] = [
     b"",
     b"\n",
     b"#",
@@ -52,42 +61,57 @@ const SHORT: [&[u8]; 10] = [
     b".e",
     b"\n\n",
     b".i 1\n.o 1\n.type fr\n.e",
+    b".i 1\n.o 1\n.type f\n.e",
     b".i 1\n.o 1\n.e",
     b".i 1\n.o 1\n",
     b".type fr\n.e",
+    b".type f\n.e",
 ];
 
-/// A random text to look names up in: mostly a recording of n relays, with names or without.
+/// A random text to look names up in: mostly a recording or a sheet of n relays, with names or
+/// without.
 pub fn lent_text(dice: &mut Dice, n: u32) -> Vec<u8> {
-    match dice.below(16) {
-        0..=7 => {
-            let lines = recording_of(dice, n, true, true);
-            decorated(dice, &lines)
-        }
-        8..=11 => {
-            let lines = recording_of(dice, n, false, true);
-            decorated(dice, &lines)
-        }
+    let kind = *dice.pick(&Kind::BOTH);
+    let lines_of = |dice: &mut Dice, named: bool| match kind {
+        Kind::Recording => recording_of(dice, n, named, true),
+        Kind::Sheet => sheet_of(dice, n, named),
+    };
+    let lines = match dice.below(16) {
+        0..=7 => lines_of(dice, true),
+        8..=11 => lines_of(dice, false),
         12..=13 => {
-            let mut lines = recording_of(dice, n, true, true);
+            let mut lines = lines_of(dice, true);
             damage_names(dice, &mut lines);
-            decorated(dice, &lines)
+            lines
         }
-        14 => Vec::new(),
-        _ => text(dice, true),
-    }
+        14 => return Vec::new(),
+        _ if kind == Kind::Sheet => return sheet_text(dice),
+        _ => return text(dice, true),
+    };
+    decorated(dice, &lines)
 }
 
 /// The lines of a recording, without needless blanks. It is accepted unless it lacks the type line.
-fn recording(dice: &mut Dice, to_learn: bool) -> Vec<Vec<u8>> {
+pub fn recording(dice: &mut Dice, to_learn: bool) -> Vec<Vec<u8>> {
     let (n, named) = (relays(dice), dice.one_in(3));
     recording_of(dice, n, named, to_learn)
 }
 
 fn recording_of(dice: &mut Dice, n: u32, named: bool, to_learn: bool) -> Vec<Vec<u8>> {
     let rows = rows(dice, n, to_learn);
+    lines_of(dice, Kind::Recording, n, rows, named)
+}
+
+/// The headers of a text of the kind in any order, its rows and the end mark, and some blank lines.
+pub fn lines_of(
+    dice: &mut Dice,
+    kind: Kind,
+    n: u32,
+    rows: Vec<Vec<u8>>,
+    named: bool,
+) -> Vec<Vec<u8>> {
     let mut lines = vec![format!(".i {n}").into_bytes(), format!(".o {n}").into_bytes()];
-    lines.extend(type_line(dice));
+    lines.extend(type_line(dice, kind));
     if dice.one_in(2) {
         lines.push(format!(".p {}", rows.len()).into_bytes());
     }
@@ -105,12 +129,13 @@ fn recording_of(dice: &mut Dice, n: u32, named: bool, to_learn: bool) -> Vec<Vec
     lines
 }
 
-/// The type line; none once in eight, and seldom one of a type that is not read.
-fn type_line(dice: &mut Dice) -> Option<Vec<u8>> {
+/// The type line; none once in eight, and seldom that of the other kind or of neither.
+fn type_line(dice: &mut Dice, kind: Kind) -> Option<Vec<u8>> {
     match dice.below(32) {
         0..=3 => None,
-        4 => Some(b".type f".to_vec()),
-        _ => Some(b".type fr".to_vec()),
+        4 => Some(dice.pick(&Kind::BOTH).type_line()),
+        5 => Some(b".type fd".to_vec()),
+        _ => Some(kind.type_line()),
     }
 }
 
@@ -191,12 +216,12 @@ fn any_columns(dice: &mut Dice, n: u32, few: bool) -> Vec<u8> {
     input
 }
 
-fn row(n: u32, input: &[u8], successor: u32) -> Vec<u8> {
+pub fn row(n: u32, input: &[u8], successor: u32) -> Vec<u8> {
     [input, b" ", &columns(n, successor)].concat()
 }
 
 /// Lines of the kinds that the layout knows, and some that it does not.
-const KINDS: [&[u8]; 37] = [
+const KINDS: [&[u8]; 39] = [
     b".i 2",
     b".o 2",
     b".i 3",
@@ -212,6 +237,8 @@ const KINDS: [&[u8]; 37] = [
     b"01 10",
     b"0- 11",
     b"-- 00",
+    b"1- 01",
+    b"-- 01",
     b".e",
     b".end",
     b"",
@@ -236,19 +263,19 @@ const KINDS: [&[u8]; 37] = [
     b"01 1-",
 ];
 
-fn any_lines(dice: &mut Dice) -> Vec<Vec<u8>> {
+pub fn any_lines(dice: &mut Dice, kind: Kind) -> Vec<Vec<u8>> {
     // Headers first, most of the time, so that later lines are judged too.
     let mut lines = Vec::new();
     if dice.one_in(2) {
         lines.extend([b".i 2".to_vec(), b".o 2".to_vec()]);
-        lines.extend(type_line(dice));
+        lines.extend(type_line(dice, kind).filter(|_| !dice.one_in(4)));
     }
     let count = dice.below(6);
     lines.extend((0..count).map(|_| dice.pick(&KINDS).to_vec()));
     lines
 }
 
-fn any_bytes(dice: &mut Dice) -> Vec<u8> {
+pub fn any_bytes(dice: &mut Dice) -> Vec<u8> {
     let near = dice.one_in(2);
     let byte = |dice: &mut Dice| match near {
         true => *dice.pick(b".iopelb01- \t\n#23type fr\r"),
@@ -257,9 +284,10 @@ fn any_bytes(dice: &mut Dice) -> Vec<u8> {
     (0..dice.below(60)).map(|_| byte(dice)).collect()
 }
 
-/// Short recordings with what is otherwise seldom: two successors, or a number of rows that is
-/// wrong, huge or right only by its last 32 or 64 bits; some of them without a type line.
-fn conflicting_or_numbered(dice: &mut Dice) -> Vec<u8> {
+/// Short texts with what is otherwise seldom: two successors, or a rule twice or within another; or
+/// a number of rows that is wrong, huge or right only by its last 32 or 64 bits; some of them
+/// without a type line.
+pub fn contradicting_or_numbered(dice: &mut Dice, kind: Kind) -> Vec<u8> {
     let number = *dice.pick(&[
         "",
         ".p 2\n",
@@ -272,21 +300,34 @@ fn conflicting_or_numbered(dice: &mut Dice) -> Vec<u8> {
         ".p\n",
         ".p -2\n",
     ]);
-    let rows = *dice.pick(&[
-        "01 10\n10 11\n",
-        "0- 10\n01 11\n",
-        "01 10\n01 11\n",
-        "01 10\n01 10\n",
-        "01 00\n0- 00\n",
-    ]);
+    let rows = dice.pick(match kind {
+        Kind::Recording => &[
+            "01 10\n10 11\n",
+            "0- 10\n01 11\n",
+            "01 10\n01 11\n",
+            "01 10\n01 10\n",
+            "01 00\n0- 00\n",
+        ],
+        Kind::Sheet => &[
+            "01 10\n10 01\n",
+            "0- 10\n01 10\n",
+            "01 10\n01 01\n",
+            "01 10\n01 10\n",
+            "-- 01\n10 10\n",
+        ],
+    });
     let end = *dice.pick(&[".e\n", ".e", ".end\n", "", ".e\n\n#x", ".e\n01 10\n"]);
-    let typed = if dice.one_in(8) { "" } else { ".type fr\n" };
+    let typed = match (dice.one_in(8), kind) {
+        (true, _) => "",
+        (_, Kind::Recording) => ".type fr\n",
+        (_, Kind::Sheet) => ".type f\n",
+    };
     format!(".i 2\n{number}.o 2\n{typed}{rows}{end}").into_bytes()
 }
 
 /// The lines as bytes: blanks between fields and at either end, comments, LF after each line, and
 /// after the last one most of the time.
-fn decorated(dice: &mut Dice, lines: &[Vec<u8>]) -> Vec<u8> {
+pub fn decorated(dice: &mut Dice, lines: &[Vec<u8>]) -> Vec<u8> {
     let plain = dice.one_in(2);
     let mut text = Vec::new();
     for line in lines {
@@ -327,7 +368,7 @@ fn blanks(dice: &mut Dice, least: u64, text: &mut Vec<u8>) {
 }
 
 /// One change to the lines; the text may still be accepted.
-fn damage_lines(dice: &mut Dice, lines: &mut Vec<Vec<u8>>) {
+pub fn damage_lines(dice: &mut Dice, lines: &mut Vec<Vec<u8>>) {
     if lines.is_empty() {
         return;
     }
@@ -358,7 +399,7 @@ fn damage_lines(dice: &mut Dice, lines: &mut Vec<Vec<u8>>) {
     }
 }
 
-/// The type line left out, moved, or changed to what is none; if the lines have one.
+/// The type line left out, moved, or changed; if the lines have one.
 fn damage_type(dice: &mut Dice, lines: &mut Vec<Vec<u8>>) {
     let Some(place) = lines.iter().position(|line| line.starts_with(b".type")) else {
         return;
@@ -367,13 +408,15 @@ fn damage_type(dice: &mut Dice, lines: &mut Vec<Vec<u8>>) {
     match dice.below(4) {
         0 => {}
         1 => lines.insert(dice.place(lines.len() + 1), line),
-        _ => lines.insert(place, dice.pick(&NO_TYPES).to_vec()),
+        _ => lines.insert(place, dice.pick(&TYPES).to_vec()),
     }
 }
 
-/// Lines that are nearly the type line.
-const NO_TYPES: [&[u8]; 11] = [
+/// The type lines, and lines that are nearly one.
+const TYPES: [&[u8]; 13] = [
     b".type f",
+    b".type fr",
+    b".type f f",
     b".type fd",
     b".type fdr",
     b".type r",
@@ -502,7 +545,7 @@ fn change_row(dice: &mut Dice, line: &mut Vec<u8>) {
 }
 
 /// One change to the bytes; the text may still be accepted.
-fn damage_bytes(dice: &mut Dice, text: &mut Vec<u8>) {
+pub fn damage_bytes(dice: &mut Dice, text: &mut Vec<u8>) {
     let any = dice.below(256) as u8;
     let byte = *dice.pick(&[any, b'\n', b'\r', b' ', b'\t', b'#', b'-', b'0', b'1', b'.', 0]);
     let place = dice.place(text.len() + 1);
@@ -524,7 +567,7 @@ fn damage_bytes(dice: &mut Dice, text: &mut Vec<u8>) {
 }
 
 /// The text made longer, to the last length that is read or to the first that is not.
-fn padded(dice: &mut Dice, text: Vec<u8>) -> Vec<u8> {
+pub fn padded(dice: &mut Dice, text: Vec<u8>) -> Vec<u8> {
     let length = MOST_INPUT + dice.place(2);
     let missing = length.saturating_sub(text.len());
     let padding = match dice.below(3) {

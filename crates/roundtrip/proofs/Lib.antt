@@ -1,0 +1,12 @@
+pub mod CellLaws
+pub mod RuleLaws
+pub mod RowLaws
+pub mod LineLaws
+pub mod HeaderLaws
+pub mod SheetLaws
+pub mod NameLaws
+pub mod ReadingLaws
+pub mod WritingLaws
+pub mod OneText
+pub mod RoundTrips
+pub mod Examples
