@@ -39,11 +39,12 @@ homeFrom at (l ∷ ls) =
 unfoldable pub homeOf : List ℕ → Home
 homeOf t = homeFrom 0 (linesOf t)
 
--- the verdict on a text of either kind: as a recording, and where that is bad as a sheet
+-- the first verdict, and where that is bad the second
 abbrev pub eitherOf : Verdict → Verdict → Verdict
 eitherOf (Good n) v = Good n
 eitherOf (Bad k) v = v
 
+-- the verdict on a text of either kind: as a recording, and where that is bad as a sheet
 unfoldable pub judgeEither : List ℕ → Verdict
 judgeEither t = eitherOf (judgeOf recording t) (judgeOf sheet t)
 

@@ -47,10 +47,11 @@ pub record ReadsLaid (lay : Layout) (t before after : List ℕ) (r : ReadAnswer)
   pub answer : r ≡ laidAnswer lay t (length before)
   pub list : after ≡ laidList lay t (length before)
 
--- the answer to a recording, and the list after it
+-- the answer to a recording
 abbrev pub readAnswer : List ℕ → ℕ → ReadAnswer
 readAnswer t room = laidAnswer recording t room
 
+-- the list after it
 abbrev pub readList : List ℕ → ℕ → List ℕ
 readList t room = laidList recording t room
 

@@ -33,12 +33,13 @@ abbrev pub rowWords : Kind → Masks → List ℕ
 rowWords Recording m = wordsBelow m (2 ^ (m .width))
 rowWords Sheet m = ruleOf m ∷ []
 
--- the words of a line: those of a row, or none
+-- the words of a line by its view: those of a row, or none
 abbrev pub viewWords : Kind → View → List ℕ
 viewWords kind (Cells m) = rowWords kind m
 viewWords kind EndMark = []
 viewWords kind Aside = []
 
+-- the words of a line
 abbrev pub lineWords : Kind → Line → List ℕ
 lineWords kind l = viewWords kind (viewOf l)
 
