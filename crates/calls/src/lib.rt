@@ -7,7 +7,7 @@ ghost use Rattle.calls.specs.Apply.{apply_code, apply_answer};
 use answers::{Answer, plain_answer};
 
 // What apply gives: the common numbers, and the state.
-#[derive(Drop)]
+#[derive(Clone, Copy)]
 pub struct Applied {
     pub answer: Answer,
     pub state: u32,

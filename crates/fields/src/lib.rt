@@ -6,7 +6,7 @@ ghost use Rattle.fields.specs.Values.{column_of, cube_of, Small, digit_of, keep,
 ghost use Rattle.fields.specs.Fields.{fields_in, only_of, Spans};
 
 // What one byte of a line is.
-#[derive(Drop)]
+#[derive(Clone, Copy)]
 pub enum Mark {
     Digit(u8),
     Dash,
@@ -18,7 +18,7 @@ pub enum Mark {
 }
 
 // A kind of stretch: what `run_end` goes over.
-#[derive(Drop)]
+#[derive(Clone, Copy)]
 pub enum Stretch {
     Gap,
     Field,
@@ -27,21 +27,21 @@ pub enum Stretch {
 }
 
 // The masks of a field of `0`, `1` and `-`, column 0 being bit 0.
-#[derive(Drop)]
+#[derive(Clone, Copy)]
 pub enum Cube {
     Columns { on: u32, off: u32, dashes: u32 },
     NoCube,
 }
 
 // A decimal number, or a field that is none.
-#[derive(Drop)]
+#[derive(Clone, Copy)]
 pub enum Number {
     Value(u64),
     NoNumber,
 }
 
 // Where a field of a line stands; it is empty at the end of the line if there is none.
-#[derive(Drop)]
+#[derive(Clone, Copy)]
 pub struct Span {
     pub from: usize,
     pub to: usize,

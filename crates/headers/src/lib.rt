@@ -3,7 +3,7 @@ use lines::{Kind, Part};
 
 // What is asked of a text: the word of its type line, and whether that line is required; whether `-` may stand in inputs and in
 // outputs; whether exactly one output of a row is `1`.
-#[derive(Drop)]
+#[derive(Clone, Copy)]
 pub struct Layout {
     pub kind: Kind,
     pub typed: bool,
@@ -13,7 +13,7 @@ pub struct Layout {
 }
 
 // A header: `.i` or `.o`, `.ilb` or `.ob`, `.type`, `.p`.
-#[derive(Drop)]
+#[derive(Clone, Copy)]
 pub enum Header {
     Size(Part),
     Names(Part),
@@ -22,7 +22,7 @@ pub enum Header {
 }
 
 // Which headers stood there.
-#[derive(Drop)]
+#[derive(Clone, Copy)]
 pub struct Seen {
     pub ins: bool,
     pub outs: bool,
@@ -34,7 +34,7 @@ pub struct Seen {
 
 // What is known after some lines: which headers stood there; the size, 0 where not given yet; the number of `.p` and its line;
 // how many rows; whether the end mark stood there.
-#[derive(Drop)]
+#[derive(Clone, Copy)]
 pub struct State {
     pub seen: Seen,
     pub size: u32,
@@ -45,7 +45,7 @@ pub struct State {
 }
 
 // A text keeps the layout, for a panel of so many relays, or its fault has a place.
-#[derive(Drop)]
+#[derive(Clone, Copy)]
 pub enum Verdict {
     Good(u32),
     Bad(usize),

@@ -6,20 +6,20 @@ ghost use Rattle.lines.specs.Lines.{other_key, key_of, row_of, row_line, columns
 use fields::{Cube, Mark, Number, Stretch};
 
 // What a text is: `.type fr` stands in a recording and `.type f` in a sheet.
-#[derive(Drop)]
+#[derive(Clone, Copy)]
 pub enum Kind {
     Recording,
     Sheet,
 }
 
 // What a size or a name line belongs to: the inputs or the outputs.
-#[derive(Drop)]
+#[derive(Clone, Copy)]
 pub enum Part {
     Ins,
     Outs,
 }
 
-#[derive(Drop)]
+#[derive(Clone, Copy)]
 pub enum Key {
     Size(Part),
     Names(Part),
@@ -30,7 +30,7 @@ pub enum Key {
 }
 
 // A row: the relays that must be on, off and neither; the outputs that are `1` and `-`; the number of columns.
-#[derive(Drop)]
+#[derive(Clone, Copy)]
 pub struct Masks {
     pub on: u32,
     pub off: u32,
@@ -40,7 +40,7 @@ pub struct Masks {
     pub width: u32,
 }
 
-#[derive(Drop)]
+#[derive(Clone, Copy)]
 pub enum Line {
     Empty,
     Sized(Part, u32),
@@ -53,7 +53,7 @@ pub enum Line {
 }
 
 // A line to those who only care for rows and the end mark: the cells of a row, the end mark, or neither.
-#[derive(Drop)]
+#[derive(Clone, Copy)]
 pub enum View {
     Cells(Masks),
     EndMark,

@@ -14,14 +14,14 @@ use headers::Verdict;
 use lines::{Line, Part, View};
 
 // Where the `.ilb` line of a text stands.
-#[derive(Drop)]
+#[derive(Clone, Copy)]
 pub enum Home {
     Stands(usize, usize),
     Nowhere,
 }
 
 // What a text says of names: both readers refuse it with 11, it has no name lines, or it names so many columns in the line between two places.
-#[derive(Drop)]
+#[derive(Clone, Copy)]
 pub enum Naming {
     Refused,
     Nameless,
@@ -29,7 +29,7 @@ pub enum Naming {
 }
 
 // The name line that two texts give: the panel's, the maker's, or neither.
-#[derive(Drop)]
+#[derive(Clone, Copy)]
 pub enum Source {
     Panel(u32, usize, usize),
     Maker(u32, usize, usize),
@@ -37,7 +37,7 @@ pub enum Source {
 }
 
 // A part of the panel's text or of the maker's.
-#[derive(Drop)]
+#[derive(Clone, Copy)]
 pub struct Spot {
     pub maker: bool,
     pub start: usize,

@@ -9,13 +9,13 @@ use headers::{Layout, Verdict};
 use lines::{Kind, Line, Masks, View};
 
 // Where the words written so far end, or that the list is full.
-#[derive(Drop)]
+#[derive(Clone, Copy)]
 pub enum Filled {
     To(usize),
     Full,
 }
 
-#[derive(Drop)]
+#[derive(Clone, Copy)]
 pub struct ReadAnswer {
     pub code: u32,
     pub place: usize,

@@ -4,7 +4,7 @@ ghost use Rattle.sessions.specs.Sessions.{totals_fit, session_after, Summable, S
 
 use answers::Answer;
 
-#[derive(Drop)]
+#[derive(Clone, Copy)]
 pub struct Session {
     pub n: u32,
     pub book_count: usize,
@@ -14,7 +14,7 @@ pub struct Session {
 }
 
 // What start and take give: the answer, and the session after the call.
-#[derive(Drop)]
+#[derive(Clone, Copy)]
 pub struct Outcome {
     pub answer: Answer,
     pub session: Session,

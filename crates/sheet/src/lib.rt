@@ -11,7 +11,7 @@ ghost use Rattle.heirs.specs.Heirs.{heir_mask, picked};
 ghost use Rattle.sheet.specs.Taking.{tally_of, Tallying, on_count, FirstOn, planted, visited, Plantable, Visitable};
 
 // What a take strikes and adds.
-#[derive(Drop)]
+#[derive(Clone, Copy)]
 pub struct Tally {
     pub struck: usize,
     pub added: usize,

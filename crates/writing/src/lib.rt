@@ -10,21 +10,21 @@ ghost use Rattle.writing.specs.Writing.{Put, count_length, names_length, text_le
 use answers::Answer;
 
 // The common numbers, and the length of the text.
-#[derive(Drop)]
+#[derive(Clone, Copy)]
 pub struct WriteAnswer {
     pub answer: Answer,
     pub length: usize,
 }
 
 // What a column says of a word: of a rule its body or its head.
-#[derive(Drop)]
+#[derive(Clone, Copy)]
 pub enum Column {
     Body,
     Head,
 }
 
 // How a table of words is written: whether `.p` stands there, and what the input and the output columns say of a word.
-#[derive(Drop)]
+#[derive(Clone, Copy)]
 pub struct Table {
     pub counted: bool,
     pub ins: Column,
