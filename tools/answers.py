@@ -18,7 +18,7 @@ PATH = re.compile(rf"(?<![\w.'-])({WORD})((?:\.{WORD})*)")
 
 
 def norm(name):
-    name = name.replace("_", "-")
+    name = name.replace("_", "-").lower()
     return re.sub(r"^overflow-", "", name)
 
 

@@ -1,4 +1,6 @@
 // The answer that every call gives: a code, a place, both counts, struck and added.
+#![tactic(auto)]
+
 ghost use Rattle.std.specs.Prelude.{◌≡◌};
 ghost use Rattle.answers.specs.Answers.{plain, done};
 

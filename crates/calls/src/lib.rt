@@ -1,4 +1,6 @@
 // The public calls fresh, take and apply: each checks its own input, and answers for every input.
+#![tactic(auto)]
+
 ghost use Rattle.std.specs.Prelude.{◌≡◌, false, take, ◌<◌};
 ghost use Rattle.calls.specs.Fresh.{fresh_code, Fresh};
 ghost use Rattle.calls.specs.Take.{given_code, entry_code, Taken};

@@ -1,4 +1,6 @@
 // The calls under C's names: each makes the public call, stores the numbers of its answer, and returns the code.
+#![tactic(auto)]
+
 ghost use Rattle.std.specs.Prelude.{◌≡◌, ◌∷◌, [], cond, get_or};
 ghost use Rattle.joining.specs.Joining.{piece};
 ghost use Rattle.public.specs.PublicCalls.{fresh, take, learn, join, apply, session_start, session_take_lent, read, read_sheet, find_name, write_sheet, run};

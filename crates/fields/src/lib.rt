@@ -1,4 +1,6 @@
 // What stands below a line: bytes, stretches of bytes, fields, and what one field says.
+#![tactic(auto)]
+
 ghost use Rattle.std.specs.Prelude.{◌≡◌, true, false, ◌+◌, ◌-◌, ◌*◌, ◌^◌, ◌≤◌, ◌<◌, length, drop};
 ghost use Rattle.fields.specs.Bytes.{mark_of, space_mark, hash_mark, feed_mark, is_in, run, same};
 ghost use Rattle.fields.specs.Texts.{past_of};

@@ -1,4 +1,6 @@
 // What a layout asks of a text, which headers there are, what is known after some lines, and the verdict: types only, `judging` has the code.
+#![tactic(auto)]
+
 use lines::{Kind, Part};
 
 // What is asked of a text: the word of its type line, and whether that line is required; whether `-` may stand in inputs and in

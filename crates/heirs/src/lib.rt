@@ -1,4 +1,6 @@
 // Which candidates of a hit rule are heirs: one pass over a part of a sheet.
+#![tactic(auto)]
+
 ghost use Rattle.std.specs.Prelude.{◌≡◌, true, false, ◌≤◌, eqb};
 ghost use Rattle.panel.specs.Rules.{head, valid_rule};
 ghost use Rattle.table.specs.Lists.{all};

@@ -1,4 +1,6 @@
 // Take where the input is known to be good: what stands in the way of a word, and the word taken into book and sheet in place.
+#![tactic(auto)]
+
 ghost use Rattle.std.specs.Prelude.{◌≡◌, true, ◌<◌};
 ghost use Rattle.book.specs.Books.{states_up};
 ghost use Rattle.panel.specs.Transitions.{transition_word};

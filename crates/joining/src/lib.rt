@@ -1,4 +1,6 @@
 // Join: two pieces of a recording, each a book and a sheet, judged and then joined into one of each.
+#![tactic(auto)]
+
 ghost use Rattle.std.specs.Prelude.{◌≡◌, true, ◌&&◌, ◌≤◌, length};
 ghost use Rattle.book.specs.Books.{good_book, states_up, union};
 ghost use Rattle.prime.specs.Sheets.{good_sheet, join_sheet};

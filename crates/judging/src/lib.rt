@@ -1,4 +1,6 @@
 // The verdict on a text of a layout: line by line, by what stood before.
+#![tactic(auto)]
+
 ghost use Rattle.std.specs.Prelude.{◌≡◌, ◌||◌, ◌^◌, ◌<◌, eqb};
 ghost use Rattle.names.specs.Names.{names_in};
 ghost use Rattle.headers.specs.Layouts.{recording, sheet, asks};

@@ -1,4 +1,6 @@
 // Learn: fresh, then take for each word of a list, then the self-check.
+#![tactic(auto)]
+
 ghost use Rattle.std.specs.Prelude.{◌≡◌, true, ◌≤◌, length, replicate};
 ghost use Rattle.table.specs.Lists.{all};
 ghost use Rattle.panel.specs.Rules.{valid_rule};

@@ -1,4 +1,6 @@
 // The bench session as one record that the caller lends: a thin take around the one by value.
+#![tactic(auto)]
+
 ghost use Rattle.lent.specs.Lent.{TakesLent};
 
 use answers::Answer;

@@ -1,4 +1,6 @@
 // The names of a name line: judged, counted and compared.
+#![tactic(auto)]
+
 ghost use Rattle.std.specs.Prelude.{◌≡◌, ◌≤◌, length};
 ghost use Rattle.fields.specs.Fields.{fields_in};
 ghost use Rattle.names.specs.Names.{in_range, name_byte, name_ok, holds, names_count, same_fields, names_in, NamesAt};

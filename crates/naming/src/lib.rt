@@ -1,4 +1,6 @@
 // The name of a column: a part of the panel's text, or else of the maker's.
+#![tactic(auto)]
+
 ghost use Rattle.std.specs.Prelude.{◌≡◌, ◌≤◌, length};
 ghost use Rattle.lines.specs.declared.Part.TheVariants.{Ins};
 ghost use Rattle.lines.specs.Lines.{view_of};

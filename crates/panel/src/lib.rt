@@ -1,4 +1,6 @@
 // Panel words: sizes, states, transition words and rule words, and the tests on them.
+#![tactic(auto)]
+
 ghost use Rattle.std.specs.Prelude.{◌≡◌, true, ◌^◌, ◌<◌, ◌≤◌};
 ghost use Rattle.panel.specs.Masks.{panel_size, on, bits_where};
 ghost use Rattle.panel.specs.Rules.{rule_word, head, must_on, must_off, valid_rule, covers, contains, narrows};

@@ -1,4 +1,6 @@
 // Good sheets, judged; the stretch of a head; and what a sheet says of a state.
+#![tactic(auto)]
+
 ghost use Rattle.std.specs.Prelude.{◌≡◌, Bool, true, ◌&&◌, ◌∷◌, ◌≤◌, ◌^◌, ◌<◌};
 ghost use Rattle.table.specs.Lists.{any, all, increasing};
 ghost use Rattle.panel.specs.Rules.{head, valid_rule, narrows, of_head};

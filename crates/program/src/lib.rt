@@ -1,4 +1,6 @@
 // The program over lent slices: a recording's text in, its sheet or the line of a refusal out.
+#![tactic(auto)]
+
 ghost use Rattle.std.specs.Prelude.{◌≡◌, length};
 ghost use Rattle.writing.specs.Writing.{Put};
 ghost use Rattle.program.specs.Program.{refusal_line, if_room, Runs, Sheets};

@@ -1,4 +1,6 @@
 // The public calls, all of them, each stated by the one `Contract`: what it is called with, what it answers, and what it leaves in every slice or record lent to it.
+#![tactic(auto)]
+
 ghost use Rattle.joining.specs.Joining.{piece};
 ghost use Rattle.public.specs.PublicCalls.{fresh, take, learn, join, apply, session_start, session_take, session_take_lent, read, read_sheet, find_name, lookup, write_sheet, run, Contract};
 

@@ -1,4 +1,6 @@
 // Reading a text: the words of its rows, in a lent list.
+#![tactic(auto)]
+
 ghost use Rattle.std.specs.Prelude.{◌≡◌, ◌++◌, ◌+◌, ◌≤◌, length, take};
 ghost use Rattle.lines.specs.Bounds.{RowOk, LineOk};
 ghost use Rattle.lines.specs.declared.Kind.TheVariants.{Recording, Sheet};

@@ -1,4 +1,6 @@
 // Reading a sheet that came back: the words of its rules, in order, in a lent slice.
+#![tactic(auto)]
+
 ghost use Rattle.std.specs.Prelude.{◌≡◌, ◌≤◌, length};
 ghost use Rattle.returned.specs.Returned.{ReadsSheet};
 ghost use Rattle.returned.specs.Judging.{ordered_first, Judged};

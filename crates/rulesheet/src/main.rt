@@ -1,5 +1,7 @@
 // Reads a recording from standard input, and writes its sheet or the line of a refusal to standard output.
 // The input has room for one byte more than the program takes, so that a longer one is seen and refused.
+#![tactic(auto)]
+
 fn main() {
     let mut input = [0u8; 24577];
     let mut list = [0u32; 1024];

@@ -1,4 +1,6 @@
 // The bench session by value: it is started like fresh, and keeps n, both counts and running totals from take to take.
+#![tactic(auto)]
+
 ghost use Rattle.std.specs.Prelude.{◌≡◌};
 ghost use Rattle.sessions.specs.Sessions.{totals_fit, session_after, Summable, Starts, Takes};
 

@@ -1,4 +1,6 @@
 // The sheet in its lent slice: take counted before anything is written, and done in place.
+#![tactic(auto)]
+
 ghost use Rattle.std.specs.Prelude.{◌≡◌, true, false, ◌||◌, cond, eqb, ◌<◌, ◌≤◌, ◌+◌, length, take, drop, get_or, ◌++◌};
 ghost use Rattle.table.specs.Lists.{increasing, insert_all, remove, insert};
 ghost use Rattle.table.specs.Surgery.{Holds};

@@ -1,4 +1,6 @@
 // Join: the walk over all rules of a panel, head by head, that keeps the smallest that both sheets permit.
+#![tactic(auto)]
+
 ghost use Rattle.std.specs.Prelude.{◌≡◌, true, ◌++◌, ◌+◌, ◌<◌, ◌≤◌, length, take, drop};
 ghost use Rattle.table.specs.Lists.{has, one_if};
 ghost use Rattle.panel.specs.Rules.{head, of_head};

@@ -1,4 +1,6 @@
 // Writing a table of words as text, and a sheet as such a table: the codes in order, then the bytes.
+#![tactic(auto)]
+
 ghost use Rattle.std.specs.Prelude.{◌≡◌, ◌∷◌, [], ◌+◌, ◌*◌, ◌^◌, ◌≤◌, ◌<◌, leb, length, take};
 ghost use Rattle.fields.specs.Decimals.{decimal};
 ghost use Rattle.fields.specs.Fields.{fields_in};

@@ -1,0 +1,7 @@
+-- `joining::fill_book` meets its contract.
+use Rattle.joining.proofs.Doing.{holds_fills}
+use Rattle.joining.proofs.fill_book.Goals as goal
+
+pub returns : goal.returns
+returns c =
+    holds_fills _ _ _ _ _ c.write_union-count.ensures.0 c.clear_from.ensures

@@ -1,0 +1,14 @@
+-- What the loop of this function keeps.
+use mathlib.Core.Path.{◌≡◌}
+use Prim.Native.Nat.{◌≤◌, ◌-◌}
+use lib.ListN.{length, drop}
+use Rattle.fields.specs.Fields.{fields_in}
+use Rattle.names.specs.Names.{names_count}
+use Rattle.names.proofs.NameLaws.{count_from}
+use Rattle.names.proofs.names_count.Given as goal
+
+abbrev pub invariant-loop-i : goal.invariant-loop-i
+invariant-loop-i l = (l.i ≤ length l.s) × (l.n ≤ l.i) × (count_from l.n (fields_in (drop l.i l.s)) ≡ names_count (fields_in l.s))
+
+abbrev pub decreases-loop-i : goal.decreases-loop-i
+decreases-loop-i l = length l.s - l.i

@@ -1,0 +1,12 @@
+-- What the loop of this function keeps.
+use Prim.Native.Nat.{◌≤◌, ◌*◌, ◌-◌}
+use Rattle.prime.specs.Sheets.{sheet_where}
+use Rattle.spans.specs.Touching.{both_permit}
+use Rattle.spans.proofs.Walking.{Written}
+use Rattle.walk.proofs.write_join.Given as goal
+
+abbrev pub invariant-loop-h : goal.invariant-loop-h
+invariant-loop-h l = (l.h ≤ l.n) × Written (sheet_where l.n (both_permit l.a l.b)) 0 (l.h * 1048576) l.initial.out l.out l.at
+
+abbrev pub decreases-loop-h : goal.decreases-loop-h
+decreases-loop-h l = l.n - l.h
