@@ -97,7 +97,7 @@ at_of_stands i b k u s =
     rw (place_of_stands i b k u s.inside s.same, lt-ltb k (length b) s.inside, eq-eqb (state (get_or b k 0)) i s.same)
 
 -- a word of the list stands at some place of it
-at_of_in : {b : List ℕ} {u : ℕ} → Mem u b → (k : ℕ) × (k < length b) × (get_or b k 0 ≡ u)
+at_of_in : {u : ℕ} {b : List ℕ} → Mem u b → (k : ℕ) × (k < length b) × (get_or b k 0 ≡ u)
 at_of_in (here {xs = b} e) = (0, zero-lt-suc (length b), sym e)
 at_of_in (there m) = let r = at_of_in m in (suc r.0, omega (arith, r.1), r.2)
 

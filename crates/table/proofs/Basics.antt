@@ -81,11 +81,11 @@ any_e f (x ∷ xs) e = go (λ (p : any f xs ≡ true). any_e f xs p) (or_e (f x)
     go rec (inl p) = (x, here refl, p)
     go rec (inr p) = let r = rec p in (r.0, there r.1, r.2)
 
-pub any_i : (f : ℕ → Bool) {s : List ℕ} {x : ℕ} → Mem x s → f x ≡ true → any f s ≡ true
+pub any_i : (f : ℕ → Bool) {x : ℕ} {s : List ℕ} → Mem x s → f x ≡ true → any f s ≡ true
 any_i f (here {x = y} {xs = ys} e) p = or_l (f y) (any f ys) (ap f (sym e) ∙ p)
 any_i f (there {x = y} {xs = ys} m) p = or_r (f y) (any f ys) (any_i f m p)
 
-pub all_e : (f : ℕ → Bool) {s : List ℕ} {x : ℕ} → Mem x s → all f s ≡ true → f x ≡ true
+pub all_e : (f : ℕ → Bool) {x : ℕ} {s : List ℕ} → Mem x s → all f s ≡ true → f x ≡ true
 all_e f (here {x = y} {xs = ys} e) p = ap f e ∙ and_l (f y) (all f ys) p
 all_e f (there {x = y} {xs = ys} m) p = all_e f m (and_r (f y) (all f ys) p)
 
@@ -137,7 +137,7 @@ filter_e f (y ∷ ys) {x} m = go (λ (k : Mem x (filter f ys)). filter_e f ys k)
     go rec (inl p) = (here p.0, ap f p.0 ∙ p.1)
     go rec (inr k) = let r = rec k in (there r.0, r.1)
 
-pub filter_i : (f : ℕ → Bool) {s : List ℕ} {x : ℕ} → Mem x s → f x ≡ true → Mem x (filter f s)
+pub filter_i : (f : ℕ → Bool) {x : ℕ} {s : List ℕ} → Mem x s → f x ≡ true → Mem x (filter f s)
 filter_i f (here {x = y} {xs = ys} e) p = cons_if_here (f y) y (filter f ys) e (ap f (sym e) ∙ p)
 filter_i f (there {x = y} {xs = ys} m) p = cons_if_there (f y) y (filter_i f m p)
 

@@ -61,7 +61,7 @@ pub remove_e : (b : ℕ) (s : List ℕ) {r : ℕ} → Mem r (remove b s) → Mem
 unfolding remove
 remove_e b s {r} m = let k = filter_e (λ x. not (eqb x b)) s m in (k.0, λ e. not_e (eqb r b) k.1 (eq-eqb r b e))
 
-pub remove_i : (b : ℕ) {s : List ℕ} {r : ℕ} → Mem r s → (r ≡ b → ⊥) → Mem r (remove b s)
+pub remove_i : (b : ℕ) {r : ℕ} {s : List ℕ} → Mem r s → (r ≡ b → ⊥) → Mem r (remove b s)
 unfolding remove
 remove_i b {r = r} m f = filter_i (λ x. not (eqb x b)) m (not_i (eqb r b) (λ e. f (eqb-true r b e)))
 
