@@ -105,7 +105,7 @@ heirs_of_all_e n k t (b ∷ bs) r m = go (Memᴰ.append_cases (heirs_of n k t b)
     go (inl p) rec = (b, here refl, heirs_of_e n k t b r p)
     go (inr p) rec = let q = rec p in (q.0, there q.1, q.2)
 
-heirs_of_all_i : (n : ℕ) (k : List ℕ) (t : ℕ) {bs : List ℕ} {b : ℕ} (r : ℕ) → Mem b bs → From n k t b r → Mem r (heirs_of_all n k t bs)
+heirs_of_all_i : (n : ℕ) (k : List ℕ) (t : ℕ) {b : ℕ} {bs : List ℕ} (r : ℕ) → Mem b bs → From n k t b r → Mem r (heirs_of_all n k t bs)
 unfolding heirs_of_all
 heirs_of_all_i n k t {b = b} r (here {x = c} {xs = cs} e) f =
     Memᴰ.append_left (heirs_of_all n k t cs) (heirs_of_i n k t c r (subst (λ (x : ℕ). From n k t x r) e f))

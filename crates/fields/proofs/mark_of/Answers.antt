@@ -3,6 +3,8 @@ use Rattle.fields.specs.Bytes.{mark_of}
 use borrow.Author.Tests.{le-leb, lt-leb, ne_eqb}
 use mathlib.Core.Logic.{⊎_elim, inl, inr}
 use native.Mathlib.Omega.{arith}
+use Rattle.std.proofs.lemmas.Grind.{common_steps}
+use Rattle.std.proofs.lemmas.Bool.Decides.{nat_tests}
 use Rattle.fields.proofs.mark_of.Goals as goal
 
 pub returns-in-45 : goal.returns-in-45
@@ -27,14 +29,12 @@ returns-in-10 c = rw c.in-10.is
 
 pub returns-in-48-to-57 : goal.returns-in-48-to-57
 unfolding mark_of
-returns-in-48-to-57 c = let b = c.args.b in simp (le-leb 48 b c.if-b-lt48.false, le-leb b 57 (omega arith))
+returns-in-48-to-57 c = grind (arith, common_steps, nat_tests)
 
 pub returns-in_default : goal.returns-in_default
 unfolding mark_of
-returns-in_default c =
-    let r = c.in-45.rest in
-    simp (lt-leb 48 _ c.if-b-lt48.true, ne_eqb _ 45 r.0.0.0.0.1, ne_eqb _ 32 (λ e. r.0.0.0.1 (inr e)), ne_eqb _ 9 (λ e. r.0.0.0.1 (inl e)), ne_eqb _ 35 r.0.0.1, ne_eqb _ 46 r.0.1, ne_eqb _ 10 r.1)
+returns-in_default c = grind (arith, common_steps, nat_tests)
 
 pub returns-in_default-2 : goal.returns-in_default-2
 unfolding mark_of
-returns-in_default-2 c = simp (le-leb 48 _ c.if-b-lt48.false, lt-leb _ 57 c.if-b-lt58.false)
+returns-in_default-2 c = grind (arith, common_steps, nat_tests)
