@@ -1,6 +1,6 @@
 -- Lines that all pass up to an end mark are headers, then rows, then that mark, then empty lines.
 use Prim.Native.Nat.{ℕ, ◌+◌}
-use mathlib.Core.Path.{◌≡◌, refl, sym, ◌∙◌, ap}
+use mathlib.Core.Path.{◌≡◌, refl, sym, ◌∙◌, ap, subst}
 use mathlib.Core.List.{List, [], ◌∷◌, ◌++◌}
 use mathlib.Core.Logic.{inl, inr}
 use mathlib.Core.Bool.{true, false, false≢true}
@@ -101,7 +101,7 @@ body_cons lay l ls st next last p r s z b =
       mark = b.mark;
       rest = b.rest;
       lines = ap (λ (y : List (List ℕ)). l ∷ y) b.lines;
-      rows = (p, rw (← z) b.rows);
+      rows = (p, subst (λ (n : ℕ). All (RowLine lay n) b.middle) z b.rows);
       ends = b.ends;
       empty = b.empty;
       number = omega (arith, b.number, r);

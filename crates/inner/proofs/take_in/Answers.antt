@@ -21,7 +21,7 @@ returns-then-sheet-sheet_count c = inner_full _ _ _ _ _ _ c.requires _ c.count_c
 pub put_word-next-requires : goal.put_word-next-requires
 put_word-next-requires c =
     let ready = c.requires in
-    ((ready.books_in, ready.in_order, ready.untold), ready.room)
+    record { may_come = (ready.books_in, ready.in_order, ready.untold); has_room = ready.room }
 
 pub take_rules-count-requires : goal.take_rules-count-requires
 take_rules-count-requires c =

@@ -4,4 +4,4 @@ use Rattle.joining.proofs.fill_book.Goals as goal
 
 pub returns : goal.returns
 returns c =
-    holds_fills _ _ _ _ _ c.write_union-count.ensures.0 c.clear_from.ensures
+    holds_fills _ _ _ _ _ c.write_union-count.ensures.holds c.clear_from.ensures

@@ -9,10 +9,10 @@ pub returns-then-code-ne0 : goal.returns-then-code-ne0
 returns-then-code-ne0 c = code_pieces _ _ _ _ _ _ c.pieces_code-code.ensures c.if-code-ne0.true
 
 pub slice_bounds-left-end : goal.slice_bounds-left-end
-slice_bounds-left-end c = sym (length-take-le _ _ (good_pieces _ _ _ _ c.pieces_code-code.ensures c.if-code-ne0.false).left.book-in)
+slice_bounds-left-end c = sym (length-take-le _ _ (good_pieces _ _ _ _ c.pieces_code-code.ensures c.if-code-ne0.false).left.book_in_slice)
 
 pub slice_bounds-right-end : goal.slice_bounds-right-end
-slice_bounds-right-end c = sym (length-take-le _ _ (good_pieces _ _ _ _ c.pieces_code-code.ensures c.if-code-ne0.false).right.book-in)
+slice_bounds-right-end c = sym (length-take-le _ _ (good_pieces _ _ _ _ c.pieces_code-code.ensures c.if-code-ne0.false).right.book_in_slice)
 
 pub do_clash-requires : goal.do_clash-requires
 do_clash-requires c = books_rise _ _ _ (good_pieces _ _ _ _ c.pieces_code-code.ensures c.if-code-ne0.false)
@@ -31,11 +31,11 @@ returns-then-book_room-count_union c =
 
 pub slice_bounds-count_join-end : goal.slice_bounds-count_join-end
 slice_bounds-count_join-end c =
-    sym (length-take-le _ _ (good_pieces _ _ _ _ c.pieces_code-code.ensures c.if-code-ne0.false).left.sheet-in)
+    sym (length-take-le _ _ (good_pieces _ _ _ _ c.pieces_code-code.ensures c.if-code-ne0.false).left.sheet_in_slice)
 
 pub slice_bounds-count_join-end-2 : goal.slice_bounds-count_join-end-2
 slice_bounds-count_join-end-2 c =
-    sym (length-take-le _ _ (good_pieces _ _ _ _ c.pieces_code-code.ensures c.if-code-ne0.false).right.sheet-in)
+    sym (length-take-le _ _ (good_pieces _ _ _ _ c.pieces_code-code.ensures c.if-code-ne0.false).right.sheet_in_slice)
 
 pub count_join-requires : goal.count_join-requires
 count_join-requires c =
