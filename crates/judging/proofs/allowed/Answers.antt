@@ -6,10 +6,10 @@ pub returns-in-Empty : goal.returns-in-Empty
 returns-in-Empty c = rw c.in-Empty.is refl
 
 pub returns-in-Sized : goal.returns-in-Sized
-returns-in-Sized c = rw (c.in-Sized.is, ← c.fits-in-Named.ensures) c.header_allowed.ensures
+returns-in-Sized c = rw (c.in-Sized.is, ← c.fits.ensures) c.header_allowed.ensures
 
 pub returns-in-Named : goal.returns-in-Named
-returns-in-Named c = rw (c.in-Named.is, ← c.fits3.ensures) c.header_allowed-in-Named.ensures
+returns-in-Named c = rw (c.in-Named.is, ← c.fits-in-Named.ensures) c.header_allowed-in-Named.ensures
 
 pub returns-in-Typed : goal.returns-in-Typed
 returns-in-Typed c = rw (c.in-Typed.is, ← c.same_kind.ensures) c.header_allowed-in-Typed.ensures
