@@ -2,7 +2,7 @@
 use Rattle.program.proofs.LineLaws.{line_length_is, put_no_line, put_line}
 use native.Mathlib.Omega.{arith}
 use Rattle.writing.proofs.TextLaws.{header_length}
-use mathlib.Core.List.{◌∷◌}
+use mathlib.Core.List.{[], ◌∷◌}
 use Rattle.program.proofs.put_refusal.Goals as goal
 
 pub returns-then-out-line_length : goal.returns-then-out-line_length

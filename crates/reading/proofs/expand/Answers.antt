@@ -5,7 +5,7 @@ use Rattle.reading.proofs.RowLaws.{words_in_lem, words_out, words_mono, words_no
 use Rattle.reading.specs.Rows.{matches_of, words_below}
 use lib.ListN.{length, take, length-set, length-append}
 use mathlib.Core.Bool.{true, false}
-use mathlib.Core.List.{List, ◌∷◌, ◌++◌, append-nil}
+use mathlib.Core.List.{[], List, ◌∷◌, ◌++◌, append-nil}
 use mathlib.Core.Path.{◌≡◌, refl, sym, ◌∙◌, ap}
 use native.Mathlib.Omega.{arith}
 use Rattle.reading.proofs.expand.Goals as goal
@@ -32,7 +32,7 @@ returns-then-list-at c =
     let k : length (words_below m (l.i + 1)) ≡ length (words_below m l.i) + 1 = ap length (words_in_lem m l.i e) ∙ length-append (words_below m l.i) _ in
     let g = words_mono m (l.i + 1) (2 ^ m.width) (omega arith) in
     let o : length a.list.now < a.from + length (words_below m (2 ^ m.width)) = omega arith in
-    (filled_full _ _ _ o, λ h. absurd (omega arith))
+    record { room = filled_full _ _ _ o; words = λ h. absurd (omega arith) }
 
 pub transition_word-requires : goal.transition_word-requires
 transition_word-requires c = let p = c.requires.1 in omega arith
@@ -59,4 +59,4 @@ returns c = let l = c.loop-i in
     let m = c.args.m in
     let n = c.power in
     let s = words_all m c.requires.1 l.i (omega (arith, n.ensures)) l.invariant.0 in
-    (rw (s, l.invariant.2) (filled_to _ _ _ (omega arith)), λ h. rw (s, ← l.invariant.2) l.invariant.4)
+    record { room = rw (s, l.invariant.2) (filled_to _ _ _ (omega arith)); words = λ h. rw (s, ← l.invariant.2) l.invariant.4 }

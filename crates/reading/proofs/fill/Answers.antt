@@ -39,10 +39,10 @@ loop-at-preserved c =
     let w = words_at kind t l.at e.result (omega arith) e.ensures.0 ln the-scan-line.ensures in
     let q : c.past-at.result ≡ past_of e.result (length t) = c.past-at.ensures in
     let k = c.in-To.k in
-    let fr : To k ≡ filled_of l.count (length (line_words kind ln)) (length l.list) = sym c.in-To.is ∙ f.ensures.0 in
+    let fr : To k ≡ filled_of l.count (length (line_words kind ln)) (length l.list) = sym c.in-To.is ∙ f.ensures.room in
     let g = filled_to_at l.count (length (line_words kind ln)) (length l.list) k fr in
     let i = past_in e.result (length t) e.ensures.1 in
-    (rw q i, omega arith, omega arith, rw q (turn_go l.list (line_words kind ln) (words_in kind t) _ _ l.count l.invariant.3 w f.new.1.0 k g.0 (f.ensures.1 g.1)))
+    (rw q i, omega arith, omega arith, rw q (turn_go l.list (line_words kind ln) (words_in kind t) _ _ l.count l.invariant.3 w f.new.list k g.0 (f.ensures.words g.1)))
 
 pub shape_of-list-in-Full : goal.shape_of-list-in-Full
 shape_of-list-in-Full c = let l = c.loop-at in omega arith
@@ -57,13 +57,16 @@ returns-in-Full c =
     let f = c.fill_line-f in
     let ln = the-scan-line.result in
     let w = words_at kind t l.at e.result (omega arith) e.ensures.0 ln the-scan-line.ensures in
-    let fr : Full ≡ filled_of l.count (length (line_words kind ln)) (length l.list) = sym c.in-Full.is ∙ f.ensures.0 in
+    let fr : Full ≡ filled_of l.count (length (line_words kind ln)) (length l.list) = sym c.in-Full.is ∙ f.ensures.room in
     let o = turn_full l.list (line_words kind ln) (words_in kind t) _ _ l.count l.invariant.3 w (length c.args.list.now) l.invariant.1 (rw l.invariant.2 at (filled_full_at l.count (length (line_words kind ln)) (length l.list) fr)) in
-    (filled_full 0 (length (words_in kind t)) _ (omega arith), λ h. absurd (omega arith))
+    record { room = filled_full 0 (length (words_in kind t)) _ (omega arith); words = λ h. absurd (omega arith) }
 
 pub returns : goal.returns
 returns c = let l = c.loop-at in
     let kind = c.args.kind in
     let t = c.args.text.now in
     let g = turn_end l.list (words_in kind t) l.count l.invariant.1 (rw (words_over kind t l.at (omega arith)) at l.invariant.3) in
-    (rw (← g.0) (rw (zero-add (length (words_in kind t))) at (filled_to 0 (length (words_in kind t)) (length c.args.list.now) (omega arith))), λ h. g.1)
+    record {
+      room = rw (← g.0) (rw (zero-add (length (words_in kind t))) at (filled_to 0 (length (words_in kind t)) (length c.args.list.now) (omega arith)));
+      words = λ h. g.1;
+    }

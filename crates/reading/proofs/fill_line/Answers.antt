@@ -14,8 +14,10 @@ returns-in-Cells c =
 
 pub returns-in-EndMark : goal.returns-in-EndMark
 returns-in-EndMark c =
-    rw (sym c.view_of-v.ensures ∙ c.in-EndMark.is) (fill_nothing _ _ c.requires.0)
+    let n = fill_nothing c.args.from c.args.list.now c.requires.0 in
+    rw (sym c.view_of-v.ensures ∙ c.in-EndMark.is) record { room = n.0; words = n.1 }
 
 pub returns-in-Aside : goal.returns-in-Aside
 returns-in-Aside c =
-    rw (sym c.view_of-v.ensures ∙ c.in-Aside.is) (fill_nothing _ _ c.requires.0)
+    let n = fill_nothing c.args.from c.args.list.now c.requires.0 in
+    rw (sym c.view_of-v.ensures ∙ c.in-Aside.is) record { room = n.0; words = n.1 }

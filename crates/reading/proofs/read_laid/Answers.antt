@@ -18,45 +18,41 @@ clear_from-requires c =
     let kind = lay.kind in
     let t = c.args.text.now in
     let k = c.in-To.count in
-    let fr : To k ≡ filled_of 0 (length (words_in kind t)) (length c.args.list.now) = sym c.in-To.is ∙ c.fill-f.ensures.0 in
+    let fr : To k ≡ filled_of 0 (length (words_in kind t)) (length c.args.list.now) = sym c.in-To.is ∙ c.fill-f.ensures.room in
     let g = filled_to_at 0 (length (words_in kind t)) (length c.args.list.now) k fr in
     omega arith
 
 pub returns-in-Bad : goal.returns-in-Bad
 returns-in-Bad c =
-    let the-v = c.v-1 in
     let lay = c.args.lay in
     let kind = lay.kind in
     let t = c.args.text.now in
-    let j : Bad the-v.given.0.0 ≡ judge_of lay t = sym the-v.given.1 ∙ c.judge-v.ensures in
+    let j : Bad c.in-Bad.p ≡ judge_of lay t = sym c.in-Bad.is ∙ c.judge-v.ensures in
     read_bad lay _ _ _ _ _ j c.refused.ensures c.clear.ensures
 
 pub returns-in-To : goal.returns-in-To
 returns-in-To c =
-    let the-v2 = c.v-in-Good-1 in
     let the-fill = c.fill-f in
-    let the-f = c.f-1 in
     let a = c.args in
     let lay = a.lay in
     let kind = lay.kind in
     let t = a.text.now in
-    let k = the-f.given.0.0 in
-    let fr : To k ≡ filled_of 0 (length (words_in kind t)) (length a.list.now) = sym the-f.given.1 ∙ the-fill.ensures.0 in
+    let k = c.in-To.count in
+    let fr : To k ≡ filled_of 0 (length (words_in kind t)) (length a.list.now) = sym c.in-To.is ∙ the-fill.ensures.room in
     let g = filled_to_at 0 (length (words_in kind t)) (length a.list.now) k fr in
     let q : k ≡ length (words_in kind t) = omega arith in
-    let j : Good the-v2.given.0.0 ≡ judge_of lay t = sym the-v2.given.1 ∙ c.judge-v.ensures in
-    read_done lay t a.list.now _ _ _ k the-fill.new.1.1.0 j q (omega arith) (omega arith) (rw q (the-fill.ensures.1 (omega arith))) refl c.clear_from.ensures
+    let j : Good c.in-Good.n ≡ judge_of lay t = sym c.in-Good.is ∙ c.judge-v.ensures in
+    read_done lay t a.list.now _ _ _ k the-fill.new.list j q (omega arith) (omega arith) (rw q (the-fill.ensures.words (omega arith))) refl c.clear_from.ensures
 
 pub returns-in-Full : goal.returns-in-Full
 returns-in-Full c =
-    let the-v2 = c.v-in-Good-1 in
     let the-fill = c.fill-f in
     let a = c.args in
     let lay = a.lay in
     let kind = lay.kind in
     let t = a.text.now in
-    let fr : Full ≡ filled_of 0 (length (words_in kind t)) (length a.list.now) = sym c.in-Full.is ∙ the-fill.ensures.0 in
+    let fr : Full ≡ filled_of 0 (length (words_in kind t)) (length a.list.now) = sym c.in-Full.is ∙ the-fill.ensures.room in
     let g = filled_full_at 0 (length (words_in kind t)) (length a.list.now) fr in
-    let j : Good the-v2.given.0.0 ≡ judge_of lay t = sym the-v2.given.1 ∙ c.judge-v.ensures in
-    let n : length the-fill.new.1.1.0 ≡ length a.list.now = omega arith in
+    let j : Good c.in-Good.n ≡ judge_of lay t = sym c.in-Good.is ∙ c.judge-v.ensures in
+    let n : length the-fill.new.list ≡ length a.list.now = omega arith in
     read_full lay t a.list.now _ _ _ j (omega arith) c.refused-in-Full.ensures (c.clear-in-Full.ensures ∙ ap (λ (k : ℕ). replicate k 0) n)

@@ -1,6 +1,6 @@
 -- `writing::put_name` meets its contract.
 use Rattle.writing.proofs.PutLaws.{put_then}
-use mathlib.Core.List.{◌∷◌}
+use mathlib.Core.List.{[], ◌∷◌}
 use native.Mathlib.Omega.{arith}
 use Rattle.writing.proofs.put_name.Goals as goal
 

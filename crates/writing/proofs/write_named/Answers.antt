@@ -2,6 +2,7 @@
 use Rattle.fields.specs.Fields.{fields_in}
 use Rattle.writing.proofs.WriteLaws.{ready, as_table, write_refused, write_done}
 use lib.ListN.{take}
+use lib.Seq.{length-take-le}
 use mathlib.Core.Path.{sym, ◌∙◌}
 use native.Mathlib.Omega.{arith}
 use Rattle.writing.proofs.write_named.Goals as goal
@@ -9,6 +10,10 @@ use Rattle.writing.proofs.write_named.Goals as goal
 pub returns-then-code-ne0 : goal.returns-then-code-ne0
 returns-then-code-ne0 c =
     write_refused _ (take c.args.n (fields_in c.args.names.now)) _ _ _ _ c.write_code-code.ensures _ c.if-code-ne0.true c.with_length.ensures
+
+pub slice_bounds-put_table-end-2 : goal.slice_bounds-put_table-end-2
+slice_bounds-put_table-end-2 c =
+    sym (length-take-le _ _ (ready _ (take c.args.n (fields_in c.args.names.now)) _ _ _ (sym c.write_code-code.ensures ∙ c.if-code-ne0.false)).counted)
 
 pub put_table-length-requires : goal.put_table-length-requires
 put_table-length-requires c =
