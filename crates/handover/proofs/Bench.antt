@@ -76,6 +76,7 @@ row_stands (applies n sheet sheetCount x a y) e = λ r h. (
 )
 
 rows_stand : (ks : List Row) → table_holds ks ≡ true → (k : Row) → Mem k ks → RowStands k
+rows_stand [] e k m = elim m [ ]
 rows_stand (x ∷ xs) e k (here p) = subst RowStands (sym p) (row_stands x (and_l (row_holds x) (table_holds xs) e))
 rows_stand (x ∷ xs) e k (there m) = rows_stand xs (and_r (row_holds x) (table_holds xs) e) k m
 

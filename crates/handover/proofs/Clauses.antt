@@ -52,12 +52,12 @@ literals_e (v ∷ vs) w l m = go (lit_e (on v (must_on w)) (pos v) (lit_if (on v
     go (inl k) rec = ap (stands w) k.0 ∙ k.1
     go (inr k) rec = go₂ (lit_e (on v (must_off w)) (neg v) (literals vs w) k) rec
 
-literals_i : {vs : List ℕ} (w : ℕ) (l : Literal) → Mem (atom_of l) vs → stands w l ≡ true → Mem l (literals vs w)
+literals_i : (w : ℕ) (l : Literal) {vs : List ℕ} → Mem (atom_of l) vs → stands w l ≡ true → Mem l (literals vs w)
 unfolding literals stands
-literals_i {vs = v ∷ vs} w (pos p) (here e) h = lit_here (on v (must_on w)) (pos v) _ (ap pos e) (subst (λ (x : ℕ). on x (must_on w) ≡ true) e h)
-literals_i {vs = v ∷ vs} w (neg p) (here e) h = lit_there (on v (must_on w)) (pos v) _ (lit_here (on v (must_off w)) (neg v) _ (ap neg e) (subst (λ (x : ℕ). on x (must_off w) ≡ true) e h))
-literals_i {vs = v ∷ vs} w (pos p) (there m) h = lit_there (on v (must_on w)) (pos v) _ (lit_there (on v (must_off w)) (neg v) _ (literals_i w (pos p) m h))
-literals_i {vs = v ∷ vs} w (neg p) (there m) h = lit_there (on v (must_on w)) (pos v) _ (lit_there (on v (must_off w)) (neg v) _ (literals_i w (neg p) m h))
+literals_i w (pos p) (here {x = v} {xs = vs} e) h = lit_here (on v (must_on w)) (pos v) _ (ap pos e) (subst (λ (x : ℕ). on x (must_on w) ≡ true) e h)
+literals_i w (neg p) (here {x = v} {xs = vs} e) h = lit_there (on v (must_on w)) (pos v) _ (lit_here (on v (must_off w)) (neg v) _ (ap neg e) (subst (λ (x : ℕ). on x (must_off w) ≡ true) e h))
+literals_i w (pos p) (there {x = v} {xs = vs} m) h = lit_there (on v (must_on w)) (pos v) _ (lit_there (on v (must_off w)) (neg v) _ (literals_i w (pos p) m h))
+literals_i w (neg p) (there {x = v} {xs = vs} m) h = lit_there (on v (must_on w)) (pos v) _ (lit_there (on v (must_off w)) (neg v) _ (literals_i w (neg p) m h))
 
 -- a relay that stands in a body is one of the ten
 atom_few : (w : ℕ) (l : Literal) → stands w l ≡ true → atom_of l < 10
@@ -161,8 +161,8 @@ has_lit_e l (k ∷ ks) e = go (or_e (same_lit l k) (has_lit l ks) e) (has_lit_e 
 
 has_lit_i : (l : Literal) {ls : List Literal} → Mem l ls → has_lit l ls ≡ true
 unfolding has_lit
-has_lit_i l {ls = k ∷ ks} (here e) = or_l (same_lit l k) (has_lit l ks) (subst (λ (x : Literal). same_lit l x ≡ true) e (same_refl l))
-has_lit_i l {ls = k ∷ ks} (there m) = or_r (same_lit l k) (has_lit l ks) (has_lit_i l m)
+has_lit_i l (here {x = k} {xs = ks} e) = or_l (same_lit l k) (has_lit l ks) (subst (λ (x : Literal). same_lit l x ≡ true) e (same_refl l))
+has_lit_i l (there {x = k} {xs = ks} m) = or_r (same_lit l k) (has_lit l ks) (has_lit_i l m)
 
 module _ (n : ℕ) (small : n ≤ 10) where
   -- a rule word of the panel is a proper rule

@@ -96,10 +96,11 @@ prime_same es R S a p = record {
 -- ---- the complete prime program (definition 7)
 
 program_e : (s : List ℕ) (R : Clause) → Mem R (program_of s) → (w : ℕ) × Mem w s × (R ≡ rule_of w)
+program_e [] R m = elim m [ ]
 program_e (w ∷ s) R (here e) = (w, here refl, e)
 program_e (w ∷ s) R (there m) = let k = program_e s R m in (k.0, there k.1, k.2)
 
-program_i : {s : List ℕ} (w : ℕ) → Mem w s → Mem (rule_of w) (program_of s)
+program_i : (w : ℕ) {s : List ℕ} → Mem w s → Mem (rule_of w) (program_of s)
 program_i w (here e) = here (ap rule_of e)
 program_i w (there m) = there (program_i w m)
 

@@ -13,7 +13,7 @@ slice_bounds-is_good_sheet-end-2 c = sym (length-take-le _ _ (omega arith))
 
 pub returns-then-not-is_good_sheet : goal.returns-then-not-is_good_sheet
 returns-then-not-is_good_sheet c =
-    let same : length c.order_first.new.0 ≡ length c.args.words.now = omega arith in
+    let same : length c.order_first.new.words ≡ length c.args.words.now = omega arith in
     judged_bad c.args.r _ _ c.requires.1 c.order_first.ensures _ c.is_good_sheet.ensures _ _ (not-true c.is_good_sheet.result c.if-not-is_good_sheet.true-raw)
     (c.clear.ensures ∙ ap (λ (k : ℕ). replicate k 0) same) c.refused.ensures
 
