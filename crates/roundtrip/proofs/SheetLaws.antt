@@ -1,6 +1,6 @@
 -- The text of a sheet is accepted for its panel, and its rows and its words are those of the sheet.
 use Prim.Native.Nat.{ℕ, ◌≤◌}
-use mathlib.Core.Path.{◌≡◌, refl, ◌∙◌, ap, ap₂}
+use mathlib.Core.Path.{◌≡◌, refl, sym, ◌∙◌, ap, ap₂, subst}
 use mathlib.Core.List.{List, [], ◌∷◌, ◌++◌, map}
 use mathlib.Core.Logic.{inr}
 use mathlib.Core.Bool.{true, ◌&&◌}
@@ -19,7 +19,7 @@ use Rattle.lines.specs.declared.Part.TheVariants.{Ins}
 use Rattle.lines.proofs.Written.{end_text, end_text_lem}
 use Rattle.headers.specs.Layouts.{sheet}
 use Rattle.headers.specs.Verdicts.{judge_of}
-use Rattle.headers.specs.Accepted.{times, rows_in, RowLine, All, Accepted}
+use Rattle.headers.specs.Accepted.{times, rows_in, HeaderLine, RowLine, All, Accepted}
 use Rattle.headers.specs.declared.Header.TheVariants.{Names}
 use Rattle.headers.specs.declared.Verdict.TheVariants.{Good}
 use Rattle.headers.proofs.Accepting.{good_iff_text}
@@ -84,7 +84,7 @@ module _ (n : ℕ) (p : panel_size n ≡ true) (ns : List (List ℕ)) (f : Label
         rest = [];
         names = ns;
         lines = sheet_lines_lem n ns ws f.good;
-        headers = rw (rows_count n some few ws h) (top_headers n some few ns f k);
+        headers = subst (λ (r : ℕ). All (HeaderLine sheet n r ns) (top_lines n ns k)) (sym (rows_count n some few ws h)) (top_headers n some few ns f k);
         once = top_once n some few ns f k;
         sized = top_sized n some few ns f k;
         typed = λ e. top_typed n some few ns f k;
