@@ -1,15 +1,15 @@
 -- A word and a book: when it is told, when it is against the book, and the book with it.
 use mathlib.Core.Path.{◌≡◌, refl, sym, ap, ◌∙◌}
 use mathlib.Core.Logic.{◌⊎◌, inl, inr}
-use mathlib.Core.Bool.{Bool, true, false, not, ◌&&◌, false≢true, cond}
+use mathlib.Core.Bool.{Bool, true, false, not, false≢true, cond}
 use mathlib.Core.List.Memᴰ
 use mathlib.Core.List.{List, Memᴰ as Mem}
 use Prim.Native.Nat.{ℕ, suc, ◌≤◌}
 use native.Mathlib.Omega.{arith}
 use lib.Dec.{eqb}
 use lib.ListN.{length}
-use borrow.Author.Tests.{eqb-true, eqb-false, eq-eqb, ne_eqb}
-use Rattle.table.specs.Lists.{has, insert, increasing}
+use borrow.Author.Tests.{eqb-true, eqb-false, eq-eqb}
+use Rattle.table.specs.Lists.{insert, increasing}
 use Rattle.table.proofs.Basics.{and_l, and_r, and_i, not_i, not_e, any_e, any_i, same_test, false_test}
 use Rattle.table.proofs.Counting.{has_e, has_i}
 use Rattle.table.proofs.Inserting.{insert_e, insert_new, insert_old, insert_length, insert_increasing}

@@ -2,7 +2,7 @@
 use mathlib.Core.Path.{◌≡◌, refl}
 use mathlib.Core.Bool.{Bool, true, false, not, ◌&&◌, ◌||◌}
 use mathlib.Core.List.{List}
-use Prim.Native.Nat.{ℕ, zero, suc, ◌+◌, ◌^◌}
+use Prim.Native.Nat.{ℕ, ◌^◌}
 use lib.Dec.{eqb, ltb}
 use lib.ListN.{length, take}
 use Rattle.panel.specs.Masks.{panel_size}

@@ -1,5 +1,5 @@
 -- Apply: the answer and the state, for all inputs.
-use Rattle.std.specs.Prelude.{◌≡◌, not, List, ℕ, zero, suc, ◌^◌, ltb, length, take}
+use Rattle.std.specs.Prelude.{not, List, ℕ, ◌^◌, ltb, length, take}
 use Rattle.panel.specs.Masks.{panel_size}
 use Rattle.prime.specs.Sheets.{good_sheet, apply_sheet}
 use Rattle.answers.specs.Answers.{refuse, plain, if_done}

@@ -22,7 +22,7 @@ use Rattle.calls.proofs.Codes.{size_of}
 use Rattle.answers.specs.declared.Answer.{Answer}
 use Rattle.learning.specs.Learn.{Run, going, refused, learn_run, run_answer, Learned}
 use Rattle.learning.proofs.Ways.{Opening, two, nine_at_once, opened, Way, six, passed_over, seven, eight, nine, taken_up, run_keeps}
-use Rattle.handover.specs.Learning.{Learnable, Before, Agrees, Stops, invalid, contradicted, book_full, sheet_full, LearnRefused, no_panel, no_room, at_word}
+use Rattle.handover.specs.Learning.{Learnable, Agrees, Stops, invalid, contradicted, book_full, sheet_full, LearnRefused, no_panel, no_room, at_word}
 use Rattle.handover.proofs.Runs.{Read, read_in, read_booked, start_read, same_sheet, again, one_more, run_words}
 use Rattle.handover.proofs.Stopping.{learnable_not_refused, learn_refused_once}
 

@@ -2,7 +2,7 @@
 use mathlib.Core.Path.{◌≡◌, refl, sym, ap, ap₂, ◌∙◌, subst}
 use mathlib.Core.Bool.{Bool, true, false, not, cond}
 use mathlib.Core.List.{List, [], ◌∷◌, ◌++◌}
-use Prim.Native.Nat.{ℕ, zero, suc, ◌+◌, ◌≤◌, ◌<◌}
+use Prim.Native.Nat.{ℕ, ◌+◌, ◌≤◌, ◌<◌}
 use native.Mathlib.Numerals.{add-one}
 use native.Mathlib.Omega.{arith}
 use lib.Dec.{ltb}
@@ -12,7 +12,7 @@ use Rattle.table.specs.Surgery.{Holds}
 use Rattle.table.proofs.Tables.{over_holds}
 use Rattle.panel.specs.Masks.{panel_size}
 use Rattle.prime.specs.Sheets.{good_sheet, fresh_sheet, sheet_of}
-use Rattle.prime.proofs.Least.{Good, good_i}
+use Rattle.prime.proofs.Least.{good_i}
 use Rattle.prime.proofs.Laws.{fresh_sheet_of, sheet_of_good}
 use Rattle.book.specs.Books.{good_book}
 use Rattle.sheet.proofs.Fresh.{fresh_length}
@@ -20,8 +20,8 @@ use Rattle.answers.specs.Answers.{refuse, plain, done}
 use Rattle.answers.specs.declared.Answer.{Answer}
 use Rattle.calls.specs.Fresh.{fresh_code}
 use Rattle.calls.proofs.Ends.{fresh_none}
-use Rattle.learning.specs.Learn.{Run, going, refused, learn_step, learn_words, learn_start}
-use Rattle.learning.specs.Running.{run_of, GoodTables, Fit, WordLearned, Through, Begun}
+use Rattle.learning.specs.Learn.{going, refused, learn_step, learn_words, learn_start}
+use Rattle.learning.specs.Running.{run_of, Fit, WordLearned, Through, Begun}
 use Rattle.learning.proofs.Words.{run_of_going, run_of_refused}
 
 -- ---- the start

@@ -1,5 +1,5 @@
 -- Learn: fresh, then take for each word in turn, then the self-check; the answer and every word of both lent slices, for all inputs.
-use Rattle.std.specs.Prelude.{◌≡◌, Bool, true, false, not, cond, List, [], ◌∷◌, ℕ, ◌+◌, zero, suc, eqb, ltb, length, replicate}
+use Rattle.std.specs.Prelude.{◌≡◌, not, cond, List, [], ◌∷◌, ℕ, ◌+◌, zero, suc, eqb, ltb, length, replicate}
 use Rattle.table.specs.Surgery.{filled, one_more_if}
 use Rattle.panel.specs.Masks.{panel_size}
 use Rattle.panel.specs.Transitions.{state, next, valid_transition}

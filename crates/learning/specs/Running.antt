@@ -1,10 +1,10 @@
 -- Where learning stands in the slices: what the answer so far and the words in use say.
-use Rattle.std.specs.Prelude.{◌≡◌, true, List, ℕ, zero, suc, ◌*◌, ◌≤◌, length, take}
+use Rattle.std.specs.Prelude.{◌≡◌, true, List, ℕ, ◌*◌, ◌≤◌, length, take}
 use Rattle.prime.specs.Sheets.{good_sheet}
 use Rattle.book.specs.Books.{good_book}
 use Rattle.answers.specs.Answers.{plain, done}
 use Rattle.answers.specs.declared.Answer.{Answer}
-use Rattle.learning.specs.Learn.{Run, run_if, going, refused, word_code, learn_step, learn_words, learn_start, learn_end, run_answer, run_book, run_sheet}
+use Rattle.learning.specs.Learn.{Run, run_if, going, word_code, learn_step, learn_words, learn_start, learn_end, run_answer, run_book, run_sheet}
 
 -- the run that an answer and the words in use stand for
 unfoldable pub run_of : Answer → List ℕ → List ℕ → Run

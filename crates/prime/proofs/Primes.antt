@@ -12,7 +12,7 @@ use Rattle.panel.specs.Rules.{head, contains, narrows}
 use Rattle.panel.proofs.Words.{rule_e, rule_i, narrows_e}
 use Rattle.prime.specs.Sheets.{consistent, sheet_of, join_sheet}
 use Rattle.prime.specs.Primes.{Prime}
-use Rattle.prime.proofs.Least.{Least, member_e, member_i}
+use Rattle.prime.proofs.Least.{member_e, member_i}
 use Rattle.prime.proofs.Laws.{sheet_of_members, join_sheet_of}
 use Rattle.prime.proofs.Apply.{consistent_covers, covers_consistent}
 

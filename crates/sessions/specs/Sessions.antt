@@ -1,5 +1,5 @@
 -- A bench session: what start and take answer, the session after them, and every word of the lent slices, for all inputs.
-use Rattle.std.specs.Prelude.{◌≡◌, Bool, not, ◌&&◌, List, ℕ, zero, suc, ◌+◌, ◌≤◌, eqb, leb, length}
+use Rattle.std.specs.Prelude.{◌≡◌, Bool, not, ◌&&◌, List, ℕ, ◌+◌, ◌≤◌, eqb, leb, length}
 use Rattle.answers.specs.declared.Answer.{Answer}
 use Rattle.calls.specs.Fresh.{fresh_code, fresh_answer, fresh_words}
 use Rattle.calls.specs.Take.{take_answer, take_book, take_words}

@@ -1,5 +1,5 @@
 -- One contact fewer in a body.
-use Rattle.std.specs.Prelude.{ℕ, zero, suc, ◌-◌, ◌*◌, ◌^◌, Bool, true, false, not, ◌&&◌, ◌||◌, cond, eqb}
+use Rattle.std.specs.Prelude.{ℕ, zero, suc, ◌-◌, ◌*◌, ◌^◌, Bool, false, not, ◌&&◌, ◌||◌, cond, eqb}
 use Rattle.panel.specs.Masks.{on}
 use Rattle.panel.specs.Rules.{must_on, must_off}
 

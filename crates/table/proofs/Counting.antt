@@ -1,6 +1,6 @@
 -- Elements in one list and in another: what two increasing lists share, and how a change of list is counted.
 use mathlib.Core.Path.{◌≡◌, refl, ap, ap₂}
-use mathlib.Core.Bool.{Bool, true, false, not, cond}
+use mathlib.Core.Bool.{Bool, true, false, not}
 use mathlib.Core.List.Memᴰ
 use mathlib.Core.List.Memᴰ.{head as here}
 use mathlib.Core.List.Memᴰ.{tail as there}

@@ -1,7 +1,6 @@
 -- `fields::mark_of` meets its contract: at each arm the keys of the `match`, or its tests, cond the case of `mark_of`.
 use Rattle.fields.specs.Bytes.{mark_of}
-use borrow.Author.Tests.{le-leb, lt-leb, ne_eqb}
-use mathlib.Core.Logic.{⊎_elim, inl, inr}
+use mathlib.Core.Logic.{⊎_elim}
 use native.Mathlib.Omega.{arith}
 use Rattle.std.proofs.lemmas.Grind.{common_steps}
 use Rattle.std.proofs.lemmas.Bool.Decides.{nat_tests}

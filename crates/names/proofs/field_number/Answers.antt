@@ -1,7 +1,6 @@
 -- `names::field_number` meets its contract: what is left to count from the place reached is what was asked.
 use mathlib.Core.Path.{refl, ◌∙◌}
 use native.Mathlib.Omega.{arith}
-use Rattle.names.specs.Spans.{field_at}
 use Rattle.names.proofs.SpanLaws.{field_more, field_done}
 use Rattle.names.proofs.field_number.Goals as goal
 

@@ -1,5 +1,4 @@
 -- `sheet::first_on` meets its contract.
-use mathlib.Core.Bool.{false}
 use native.Mathlib.Omega.{arith}
 use Rattle.sheet.proofs.Planting.{first_start, first_more, first_found, first_none}
 use Rattle.sheet.proofs.first_on.Goals as goal

@@ -1,7 +1,5 @@
 -- `walk::is_kept` meets its contract.
-use mathlib.Core.Bool.{false}
 use native.Mathlib.Omega.{arith}
-use Rattle.spans.specs.Touching.{both_touch}
 use Rattle.spans.proofs.Fewer.{least_not, least_hit, least_done, fewer_start, fewer_more}
 use Rattle.spans.proofs.Steps.{rule_of_spot}
 use Rattle.spans.proofs.Walking.{has_least}
