@@ -371,11 +371,12 @@ class FirstBuild(InFolder):
             path = self.put(f"clone/{name}", (ROOT / name).read_bytes())
             path.chmod(0o755)
         self.put("clone/crates/table/src/lib.rt", b"")
+        self.put("clone/crates/rulesheet/src/main.rt", b"")
         self.put("bin/rt", f"#!/bin/sh\n{rt}\n".encode()).chmod(0o755)
         return {**os.environ, "PATH": f"{self.folder / 'bin'}:{os.environ['PATH']}"}
 
     def test_says_how_far(self) -> None:
-        env = self.clone("echo noise; for k in a b c; do echo \"rt: $k proved (1 s)\"; done; mkdir -p target/bin; echo x > target/bin/rulesheet")
+        env = self.clone("echo noise; for k in a b c; do echo \"logic=proved functions=1\"; done; mkdir -p out; echo x > out/rulesheet")
         done = ran(self.folder / "clone/tools/program", "--built", "rulesheet", env=env)
         self.assertEqual((done.returncode, done.stdout), (0, b""))
         # The program, what crates.txt says it needs, and what that needs; the kit's libraries are not ours to prove.
@@ -386,7 +387,7 @@ class FirstBuild(InFolder):
         self.assertEqual(ran(self.folder / "clone/tools/program", "--built", "rulesheet", env=env).stderr, b"")
 
     def test_two_at_once(self) -> None:
-        env = self.clone("echo run >> runs; sleep 1; mkdir -p target/bin; echo x > target/bin/rulesheet")
+        env = self.clone("echo run >> ../../runs; sleep 1; mkdir -p out; echo x > out/rulesheet")
         words = [self.folder / "clone/tools/program", "--built", "rulesheet"]
         both = [subprocess.Popen(words, env=env, stderr=subprocess.PIPE) for _ in range(2)]
         said = b"".join(one.communicate(timeout=60)[1] for one in both)
