@@ -1,4 +1,4 @@
-/* ntekuzino.h: the calls of Ntekuzino for C11. Link target/staticlib/libexports.a (`rt lib` in crates/exports), x86-64.
+/* ntekuzino.h: the calls of Ntekuzino for C11. Link target/staticlib/libexports.a (`tools/clib --library` proves, builds and prints it), x86-64.
  *
  * Words.    A transition's word is state * 1024 + successor. A rule's word is head * 1048576 + P * 1024 + N, P the
  *           relays that must be on, N those that must be off. Bit i is relay i. A panel has n relays, 1 to 10.

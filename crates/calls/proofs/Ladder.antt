@@ -1,4 +1,4 @@
--- Take's refusals on one page, in the order in which 01 has take ask: a second reading of `takeCode`.
+-- Take's refusals on one page, in the order in which 01 has take ask: a second reading of `take_code`.
 use mathlib.Core.Path.{◌≡◌, refl}
 use mathlib.Core.Bool.{Bool, true, false, not, ◌&&◌, ◌||◌}
 use mathlib.Core.List.{List}

@@ -141,7 +141,7 @@ module _ (n bookRoom sheetRoom : ℕ) where
 
 -- ---- the definitions cover every list
 
--- one of the two is the case, and by `learnable-not-refused` not both
+-- one of the two is the case, and by `learnable_not_refused` not both
 pub learnable_or_refused : (n : ℕ) (ts : List ℕ) (bookRoom sheetRoom : ℕ) → Learnable n ts bookRoom sheetRoom ⊎ ((c : ℕ) × (p : ℕ) × LearnRefused n ts bookRoom sheetRoom c p)
 learnable_or_refused n ts bookRoom sheetRoom = go (learn_run n bookRoom sheetRoom ts) refl
   where

@@ -1,4 +1,4 @@
--- The machine of `judgeLines` as `Passing` sees it, and the verdict on lines that pass, or of which one does not.
+-- The machine of `judge_lines` as `Passing` sees it, and the verdict on lines that pass, or of which one does not.
 use Prim.Native.Nat.{ℕ, ◌+◌}
 use mathlib.Core.Path.{◌≡◌, refl, ◌∙◌, ap}
 use mathlib.Core.List.{List, [], ◌∷◌, ◌++◌}

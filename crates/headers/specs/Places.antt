@@ -1,4 +1,4 @@
--- The place of a fault as 01 defines it: by what can still follow, apart from how `judgeLines` finds it.
+-- The place of a fault as 01 defines it: by what can still follow, apart from how `judge_lines` finds it.
 use Rattle.std.specs.Prelude.{ℕ, ◌+◌, ◌≡◌, List, [], ◌∷◌, ◌++◌, ◌⊎◌, Bool, true, false, ◌||◌, length}
 use Rattle.fields.specs.Texts.{lines_of}
 use Rattle.lines.specs.Lines.{line_of, view_of}

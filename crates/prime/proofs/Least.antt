@@ -1,4 +1,4 @@
--- `sheetWhere`: its members, that they determine it, and that it stands for the test it came from.
+-- `sheet_where`: its members, that they determine it, and that it stands for the test it came from.
 use mathlib.Core.Path.{◌≡◌, refl, sym, ◌∙◌, subst}
 use mathlib.Core.Logic.{◌⊎◌, inl, inr}
 use mathlib.Core.Bool.{Bool, true, not, ◌&&◌, ◌||◌}

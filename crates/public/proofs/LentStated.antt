@@ -1,4 +1,4 @@
--- `lent::take_lent` is lent a record by `&mut`, which no function here can pass on without a walk; so its `ensures` is held against `Contract` as it stands: what the check made of its source is the contract of the call `session-take-lent`.
+-- `lent::take_lent` is lent a record by `&mut`; no function here passes it on, so its `ensures` is held against `Contract` as it stands: what the check made of its source is the contract of the call `session_take_lent`.
 use mathlib.Core.Path.{◌≡◌, refl}
 use seplogic.Ra.Ura.{Ura}
 use base.Logic.{SProp}

@@ -98,7 +98,7 @@ pub fn session_take(
     session.take(book, sheet, i, j)
 }
 
-// The same through a record that is lent. Whoever has a record to lend calls `lent::take_lent`, which ensures this same contract (`lent-stated`).
+// The same through a record that is lent. Whoever has a record to lend calls `lent::take_lent`, which ensures this same contract (`lent_stated`).
 pub fn session_take_lent(
     session: Session,
     book: &mut [u32],

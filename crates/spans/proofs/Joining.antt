@@ -15,7 +15,7 @@ use Rattle.spans.specs.Touching.{both_permit, touches, both_touch}
 use Rattle.spans.proofs.Touching.{touches_permits}
 use Rattle.spans.proofs.Heads.{head_ext, head_none}
 
--- ---- join is the walk with `bothPermit`
+-- ---- join is the walk with `both_permit`
 
 pub join_permit : (n : ℕ) (s t : List ℕ) → sheet_where n (both_permit s t) ≡ join_sheet n s t
 unfolding both_permit join_sheet
@@ -24,7 +24,7 @@ join_permit n s t = refl
 pub join_room : (n : ℕ) (s t : List ℕ) (k : ℕ) → length (join_sheet n s t) ≤ k → length (sheet_where n (both_permit s t)) ≤ k
 join_room n s t k h = rw join_permit h
 
--- ---- and inside one head with `bothTouch`
+-- ---- and inside one head with `both_touch`
 
 -- a head's bodies are permitted by the rules of that head alone
 permits_head : (h : ℕ) (s : List ℕ) (w : ℕ) → head w ≡ h → permits (of_head h s) w ≡ permits s w
