@@ -1,9 +1,52 @@
-// The answer that every call gives: a code, a place, both counts, struck and added.
+// The answer that every call gives, a code, a place, both counts, struck and added; and the refusals that have codes.
 #![tactic(auto)]
 
 ghost use Rattle.std.specs.Prelude.{◌≡◌};
 ghost use Rattle.answers.specs.Answers.{plain, done};
+ghost use Rattle.answers.specs.Refusals.{code_of};
 
+// Why a call refuses, in the order of the codes.
+#[derive(Clone, Copy, PartialEq, Eq, Debug)]
+pub enum Refusal {
+    Known,
+    PanelSize,
+    Counts,
+    Book,
+    Sheet,
+    Word,
+    Contradiction,
+    BookRoom,
+    SheetRoom,
+    Unreproduced,
+    Faulty,
+    TextRoom,
+    TooLong,
+}
+
+impl Refusal {
+    // The number that C, the desk and the documents know it by.
+    pub fn code(self) -> u32
+        ensures { result ≡ code_of self }
+    {
+        match self {
+            Refusal::Known => 1,
+            Refusal::PanelSize => 2,
+            Refusal::Counts => 3,
+            Refusal::Book => 4,
+            Refusal::Sheet => 5,
+            Refusal::Word => 6,
+            Refusal::Contradiction => 7,
+            Refusal::BookRoom => 8,
+            Refusal::SheetRoom => 9,
+            Refusal::Unreproduced => 10,
+            Refusal::Faulty => 11,
+            Refusal::TextRoom => 12,
+            Refusal::TooLong => 13,
+        }
+    }
+}
+
+// The code is a number, 0 where nothing was refused: so `Contract` of every public call, the theorems of handover and C have it.
 #[derive(Clone, Copy)]
 pub struct Answer {
     pub code: u32,
@@ -12,6 +55,15 @@ pub struct Answer {
     pub sheet_count: usize,
     pub struck: usize,
     pub added: usize,
+}
+
+impl Answer {
+    // A refusal, with a place and counts; struck and added are 0.
+    pub fn refused(why: Refusal, place: usize, book_count: usize, sheet_count: usize) -> Answer
+        ensures { result ≡ plain (code_of why) place book_count sheet_count }
+    {
+        plain_answer(why.code(), place, book_count, sheet_count)
+    }
 }
 
 // A code with a place and counts; struck and added are 0.
