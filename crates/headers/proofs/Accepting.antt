@@ -26,7 +26,7 @@ use Rattle.headers.specs.declared.Header.{Header}
 use Rattle.headers.specs.declared.Header.TheVariants.{Size, Names, TypeWord, Count}
 use Rattle.headers.specs.declared.Seen.{Seen}
 use Rattle.headers.specs.declared.State.{State}
-use Rattle.headers.specs.declared.Verdict.TheVariants.{Good, Bad}
+use Rattle.std.specs.Prelude.{Ok, Err}
 use Rattle.headers.proofs.Passing.{state_after, all_pass, pass_cons, pass_append, after_append, Stuck, pass_or_stuck}
 use Rattle.headers.proofs.Machine.{passes, after, judge_passing, judge_stuck, after_rows}
 use Rattle.headers.proofs.Fitting.{fits_i}
@@ -36,7 +36,7 @@ use Rattle.headers.proofs.Splitting.{CountsRows, Split, split_of}
 
 -- ---- a good verdict
 
-pub good_or_bad : (n k : ℕ) → Good n ≡ Bad k → ⊥
+pub good_or_bad : (n k : ℕ) → Ok n ≡ Err k → ⊥
 good_or_bad n k e = let z : ◌≡◌ {A = ℕ} 0 1 = cc in omega arith
 
 -- what the last state of a text with a good verdict says
@@ -45,26 +45,26 @@ pub record Finished (last : State) (n : ℕ) : Type 0 where
   pub counts : CountsRows last
   pub size : last.size ≡ n
 
-finish_e : (st : State) (k n : ℕ) → finish_of st k ≡ Good n → Finished st n
+finish_e : (st : State) (k n : ℕ) → finish_of st k ≡ Ok n → Finished st n
 unfolding finish_of
 finish_e st k n v = go _ _ st.ended refl st.seen.count refl (eqb st.want st.rows) refl v
   where
     go : (p q : ℕ) (e : Bool) → st.ended ≡ e → (c : Bool) → st.seen.count ≡ c → (w : Bool) → eqb st.want st.rows ≡ w
-        → cond e (cond c (cond w (Good st.size) (Bad p)) (Good st.size)) (Bad q) ≡ Good n → Finished st n
+        → cond e (cond c (cond w (Ok st.size) (Err p)) (Ok st.size)) (Err q) ≡ Ok n → Finished st n
     go p q false e c f w g v = absurd (good_or_bad n q (sym v))
     go p q true e false f w g v = record { ended = e; counts = λ c. absurd (false≢true (sym f ∙ c)); size = cc }
     go p q true e true f true g v = record { ended = e; counts = λ c. eqb-true st.want st.rows g; size = cc }
     go p q true e true f false g v = absurd (good_or_bad n p (sym v))
 
-pub finish_i : (st : State) (k n : ℕ) → Finished st n → finish_of st k ≡ Good n
+pub finish_i : (st : State) (k n : ℕ) → Finished st n → finish_of st k ≡ Ok n
 unfolding finish_of
-finish_i st k n f = rw f.ended (go _ st.seen.count refl) ∙ ap Good f.size
+finish_i st k n f = rw f.ended (go _ st.seen.count refl) ∙ ap Ok f.size
   where
-    go : (p : ℕ) (c : Bool) → st.seen.count ≡ c → cond c (cond (eqb st.want st.rows) (Good st.size) (Bad p)) (Good st.size) ≡ Good st.size
+    go : (p : ℕ) (c : Bool) → st.seen.count ≡ c → cond c (cond (eqb st.want st.rows) (Ok st.size) (Err p)) (Ok st.size) ≡ Ok st.size
     go p true c = rw (eq-eqb st.want st.rows (f.counts c))
     go p false c = refl
 
-pub good_passes : (lay : Layout) (ls : List (List ℕ)) (n : ℕ) → judge_lines lay ls fresh_point 1 ≡ Good n → passes lay ls fresh_point 1 ≡ true
+pub good_passes : (lay : Layout) (ls : List (List ℕ)) (n : ℕ) → judge_lines lay ls fresh_point 1 ≡ Ok n → passes lay ls fresh_point 1 ≡ true
 good_passes lay ls n h =
     ⊎_elim (λ p. p)
     (λ (s : Stuck (allowed_at lay) next_at ls fresh_point 1). absurd (good_or_bad n (length s.before + 1)
@@ -126,7 +126,7 @@ split_text lay ls last n s z =
       empty = s.empty;
     }
 
-pub good_text : (lay : Layout) (ls : List (List ℕ)) (n : ℕ) → judge_lines lay ls fresh_point 1 ≡ Good n → Text lay n ls
+pub good_text : (lay : Layout) (ls : List (List ℕ)) (n : ℕ) → judge_lines lay ls fresh_point 1 ≡ Ok n → Text lay n ls
 good_text lay ls n h =
     let p = good_passes lay ls n h in
     let f : Finished (after ls fresh_point 1).state n = finish_e (after ls fresh_point 1).state (length ls + 1) n (sym (judge_passing lay ls fresh_point 1 p) ∙ h) in
@@ -390,10 +390,10 @@ module _ (lay : Layout) (n : ℕ) (ls : List (List ℕ)) (t : Text lay n ls) whe
         size = rowed.size ∙ first_size;
       }
 
-  pub text_good : judge_lines lay ls fresh_point 1 ≡ Good n
+  pub text_good : judge_lines lay ls fresh_point 1 ≡ Ok n
   text_good = judge_passing lay ls fresh_point 1 text_passes ∙ rw text_after (finish_i third.state (length ls + 1) n text_finished)
 
 -- the verdict on a text is good, for a panel of n relays, exactly when it is a text of the layout for n relays
-pub good_iff_text : (lay : Layout) (t : List ℕ) (n : ℕ) → (judge_of lay t ≡ Good n) ↔ Accepted lay n t
+pub good_iff_text : (lay : Layout) (t : List ℕ) (n : ℕ) → (judge_of lay t ≡ Ok n) ↔ Accepted lay n t
 unfolding judge_of
 good_iff_text lay t n = (good_text lay (lines_of t) n, text_good lay n (lines_of t))

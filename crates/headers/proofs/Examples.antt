@@ -25,8 +25,8 @@ use Rattle.headers.specs.Places.{Begins, end_in, FaultyLine, Untyped, EndMissing
 use Rattle.headers.specs.declared.Layout.{Layout}
 use Rattle.headers.specs.declared.Header.{Header}
 use Rattle.headers.specs.declared.Header.TheVariants.{Size, Names, TypeWord, Count}
-use Rattle.headers.specs.declared.Verdict.{Verdict}
-use Rattle.headers.specs.declared.Verdict.TheVariants.{Good, Bad}
+use Rattle.headers.specs.Verdicts.{Verdict}
+use Rattle.std.specs.Prelude.{Ok, Err}
 use Rattle.headers.proofs.Passing.{all_pass}
 use Rattle.headers.proofs.Accepting.{good_iff_text}
 use Rattle.headers.proofs.PlaceLaws.{passes_begins, begins_passes, bad_iff_place}
@@ -147,41 +147,41 @@ Judged lay (e ∷ es) = (judge_of lay e.0 ≡ e.1) × Judged lay es
 -- and the same with another fault
 abbrev texts : List (List ℕ × Verdict)
 texts =
-    (i1 ++ o1 ++ fr ++ row ++ end, Good 1)
-    ∷ (o1 ++ note ++ fr ++ p2 ++ i1 ++ blank ++ row ++ note ++ dash ++ end ++ blank ++ note, Good 1)
-    ∷ (i1 ++ o1 ++ p0 ++ fr ++ end, Good 1)
-    ∷ ([], Bad 1)
-    ∷ (i1 ++ o2 ++ fr ++ row ++ end, Bad 2)
-    ∷ (i1 ++ i1 ++ o1 ++ fr ++ end, Bad 2)
-    ∷ (i1 ++ o1 ++ fr ++ fr ++ row ++ end, Bad 4)
-    ∷ (i1 ++ o1 ++ p1 ++ p1 ++ fr ++ row ++ end, Bad 4)
-    ∷ (f ++ i1 ++ o1 ++ fr ++ row ++ end, Bad 1)
-    ∷ (i1 ++ fr ++ row ++ o1 ++ end, Bad 3)
-    ∷ (i1 ++ fr ++ end, Bad 3)
-    ∷ (i1 ++ o1 ++ fr ++ row ++ fr ++ end, Bad 5)
-    ∷ (i1 ++ o1 ++ fr ++ row ++ p1 ++ end, Bad 5)
-    ∷ (i1 ++ o1 ++ fr ++ row ++ i1 ++ end, Bad 5)
-    ∷ (i1 ++ o1 ++ fr ++ wide ++ end, Bad 4)
-    ∷ (i1 ++ o1 ++ fr ++ unread ++ end, Bad 4)
-    ∷ (i1 ++ o1 ++ fr ++ end ++ row, Bad 5)
-    ∷ (i1 ++ o1 ++ fr ++ end ++ end, Bad 5)
-    ∷ (i1 ++ o1 ++ fr ++ end ++ p0, Bad 5)
-    ∷ (i1 ++ o1 ++ fr ++ row ++ blank, Bad 6)
-    ∷ (i1 ++ p2 ++ o1 ++ fr ++ row ++ end, Bad 2)
-    ∷ (i1 ++ p2 ++ o1 ++ fr ++ row ++ unread ++ end, Bad 6)
+    (i1 ++ o1 ++ fr ++ row ++ end, Ok 1)
+    ∷ (o1 ++ note ++ fr ++ p2 ++ i1 ++ blank ++ row ++ note ++ dash ++ end ++ blank ++ note, Ok 1)
+    ∷ (i1 ++ o1 ++ p0 ++ fr ++ end, Ok 1)
+    ∷ ([], Err 1)
+    ∷ (i1 ++ o2 ++ fr ++ row ++ end, Err 2)
+    ∷ (i1 ++ i1 ++ o1 ++ fr ++ end, Err 2)
+    ∷ (i1 ++ o1 ++ fr ++ fr ++ row ++ end, Err 4)
+    ∷ (i1 ++ o1 ++ p1 ++ p1 ++ fr ++ row ++ end, Err 4)
+    ∷ (f ++ i1 ++ o1 ++ fr ++ row ++ end, Err 1)
+    ∷ (i1 ++ fr ++ row ++ o1 ++ end, Err 3)
+    ∷ (i1 ++ fr ++ end, Err 3)
+    ∷ (i1 ++ o1 ++ fr ++ row ++ fr ++ end, Err 5)
+    ∷ (i1 ++ o1 ++ fr ++ row ++ p1 ++ end, Err 5)
+    ∷ (i1 ++ o1 ++ fr ++ row ++ i1 ++ end, Err 5)
+    ∷ (i1 ++ o1 ++ fr ++ wide ++ end, Err 4)
+    ∷ (i1 ++ o1 ++ fr ++ unread ++ end, Err 4)
+    ∷ (i1 ++ o1 ++ fr ++ end ++ row, Err 5)
+    ∷ (i1 ++ o1 ++ fr ++ end ++ end, Err 5)
+    ∷ (i1 ++ o1 ++ fr ++ end ++ p0, Err 5)
+    ∷ (i1 ++ o1 ++ fr ++ row ++ blank, Err 6)
+    ∷ (i1 ++ p2 ++ o1 ++ fr ++ row ++ end, Err 2)
+    ∷ (i1 ++ p2 ++ o1 ++ fr ++ row ++ unread ++ end, Err 6)
     ∷ []
 
 -- with no type line before it: the first row; the end mark, of a text with no rows; the first row, though the type line follows it, and though
 -- the number after `.p` is wrong; the same with names; neither row nor end mark; `.type f` is faulty itself
 abbrev untyped_texts : List (List ℕ × Verdict)
 untyped_texts =
-    (i1 ++ o1 ++ row ++ row ++ end, Bad 3)
-    ∷ (i1 ++ o1 ++ note ++ end, Bad 4)
-    ∷ (i1 ++ o1 ++ row ++ fr ++ end, Bad 3)
-    ∷ (i1 ++ p2 ++ o1 ++ row ++ end, Bad 4)
-    ∷ (i1 ++ o1 ++ ilb_a ++ ob_a ++ row ++ end, Bad 5)
-    ∷ (i1 ++ o1, Bad 3)
-    ∷ (i1 ++ o1 ++ f ++ row ++ end, Bad 3)
+    (i1 ++ o1 ++ row ++ row ++ end, Err 3)
+    ∷ (i1 ++ o1 ++ note ++ end, Err 4)
+    ∷ (i1 ++ o1 ++ row ++ fr ++ end, Err 3)
+    ∷ (i1 ++ p2 ++ o1 ++ row ++ end, Err 4)
+    ∷ (i1 ++ o1 ++ ilb_a ++ ob_a ++ row ++ end, Err 5)
+    ∷ (i1 ++ o1, Err 3)
+    ∷ (i1 ++ o1 ++ f ++ row ++ end, Err 3)
     ∷ []
 
 -- with names, accepted: behind the sizes, and in any order among the headers;
@@ -189,18 +189,18 @@ untyped_texts =
 -- row; one line alone, at the first row and at the end mark
 abbrev named_texts : List (List ℕ × Verdict)
 named_texts =
-    (i1 ++ o1 ++ ilb_a ++ ob_a ++ fr ++ row ++ end, Good 1)
-    ∷ (ob_a ++ fr ++ o1 ++ note ++ ilb_a ++ p1 ++ i1 ++ row ++ end, Good 1)
-    ∷ (i1 ++ ilb_a ++ o1 ++ ob_b ++ fr ++ row ++ end, Bad 4)
-    ∷ (i1 ++ ilb_aB ++ o1 ++ fr ++ row ++ end, Bad 2)
-    ∷ (ilb_aB ++ i1 ++ o1 ++ fr ++ row ++ end, Bad 2)
-    ∷ (ilb_aB ++ ob_a ++ fr ++ row ++ end, Bad 2)
-    ∷ (ilb_a ++ ilb_a ++ fr ++ row ++ end, Bad 2)
-    ∷ (ilb_aA ++ fr ++ end, Bad 1)
-    ∷ (i1 ++ o1 ++ ilb_none ++ fr ++ end, Bad 3)
-    ∷ (i1 ++ o1 ++ fr ++ row ++ ilb_a ++ ob_a ++ end, Bad 5)
-    ∷ (i1 ++ ilb_a ++ o1 ++ fr ++ row ++ end, Bad 5)
-    ∷ (ob_a ++ i1 ++ o1 ++ fr ++ end, Bad 5)
+    (i1 ++ o1 ++ ilb_a ++ ob_a ++ fr ++ row ++ end, Ok 1)
+    ∷ (ob_a ++ fr ++ o1 ++ note ++ ilb_a ++ p1 ++ i1 ++ row ++ end, Ok 1)
+    ∷ (i1 ++ ilb_a ++ o1 ++ ob_b ++ fr ++ row ++ end, Err 4)
+    ∷ (i1 ++ ilb_aB ++ o1 ++ fr ++ row ++ end, Err 2)
+    ∷ (ilb_aB ++ i1 ++ o1 ++ fr ++ row ++ end, Err 2)
+    ∷ (ilb_aB ++ ob_a ++ fr ++ row ++ end, Err 2)
+    ∷ (ilb_a ++ ilb_a ++ fr ++ row ++ end, Err 2)
+    ∷ (ilb_aA ++ fr ++ end, Err 1)
+    ∷ (i1 ++ o1 ++ ilb_none ++ fr ++ end, Err 3)
+    ∷ (i1 ++ o1 ++ fr ++ row ++ ilb_a ++ ob_a ++ end, Err 5)
+    ∷ (i1 ++ ilb_a ++ o1 ++ fr ++ row ++ end, Err 5)
+    ∷ (ob_a ++ i1 ++ o1 ++ fr ++ end, Err 5)
     ∷ []
 
 pub texts_judged : Judged recording texts
@@ -222,22 +222,22 @@ named_judged = (refl, (refl, (refl, (refl, (refl, (refl, (refl, (refl, (refl, (r
 -- rows; no end mark; one name line alone; the later of unequal sizes
 abbrev sheet_texts : List (List ℕ × Verdict)
 sheet_texts =
-    (i2 ++ o2 ++ f ++ p2 ++ rule ++ other ++ end, Good 2)
-    ∷ (o2 ++ note ++ f ++ i2 ++ other ++ blank ++ rule ++ note ++ end ++ blank, Good 2)
-    ∷ (i1 ++ o1 ++ ilb_a ++ ob_a ++ f ++ dash ++ end, Good 1)
-    ∷ (i1 ++ o1 ++ f ++ dash ++ dash ++ end, Good 1)
-    ∷ (i1 ++ o1 ++ f ++ end, Good 1)
-    ∷ (i2 ++ o2 ++ f ++ rule ++ two ++ end, Bad 5)
-    ∷ (i1 ++ o1 ++ f ++ row ++ end, Bad 4)
-    ∷ (i1 ++ o1 ++ f ++ unread ++ end, Bad 4)
-    ∷ (i1 ++ o1 ++ fr ++ dash ++ end, Bad 3)
-    ∷ (i1 ++ o1 ++ dash ++ f ++ end, Bad 3)
-    ∷ (i1 ++ o1 ++ end, Bad 3)
-    ∷ (i1 ++ o1 ++ f ++ f ++ dash ++ end, Bad 4)
-    ∷ (i1 ++ p2 ++ o1 ++ f ++ dash ++ end, Bad 2)
-    ∷ (i1 ++ o1 ++ f ++ dash, Bad 5)
-    ∷ (i1 ++ ilb_a ++ o1 ++ f ++ dash ++ end, Bad 5)
-    ∷ (i1 ++ o2 ++ f ++ dash ++ end, Bad 2)
+    (i2 ++ o2 ++ f ++ p2 ++ rule ++ other ++ end, Ok 2)
+    ∷ (o2 ++ note ++ f ++ i2 ++ other ++ blank ++ rule ++ note ++ end ++ blank, Ok 2)
+    ∷ (i1 ++ o1 ++ ilb_a ++ ob_a ++ f ++ dash ++ end, Ok 1)
+    ∷ (i1 ++ o1 ++ f ++ dash ++ dash ++ end, Ok 1)
+    ∷ (i1 ++ o1 ++ f ++ end, Ok 1)
+    ∷ (i2 ++ o2 ++ f ++ rule ++ two ++ end, Err 5)
+    ∷ (i1 ++ o1 ++ f ++ row ++ end, Err 4)
+    ∷ (i1 ++ o1 ++ f ++ unread ++ end, Err 4)
+    ∷ (i1 ++ o1 ++ fr ++ dash ++ end, Err 3)
+    ∷ (i1 ++ o1 ++ dash ++ f ++ end, Err 3)
+    ∷ (i1 ++ o1 ++ end, Err 3)
+    ∷ (i1 ++ o1 ++ f ++ f ++ dash ++ end, Err 4)
+    ∷ (i1 ++ p2 ++ o1 ++ f ++ dash ++ end, Err 2)
+    ∷ (i1 ++ o1 ++ f ++ dash, Err 5)
+    ∷ (i1 ++ ilb_a ++ o1 ++ f ++ dash ++ end, Err 5)
+    ∷ (i1 ++ o2 ++ f ++ dash ++ end, Err 2)
     ∷ []
 
 pub sheets_judged : Judged sheet sheet_texts
@@ -246,16 +246,16 @@ sheets_judged = (refl, (refl, (refl, (refl, (refl, (refl, (refl, (refl, (refl, (
 
 -- what a verdict means: the text is one of the layout, for n relays, or k is the place of its fault
 abbrev Means : Layout → List ℕ → Verdict → Type 0
-Means lay t (Good n) = Accepted lay n t
-Means lay t (Bad k) = Place lay t k
+Means lay t (Ok n) = Accepted lay n t
+Means lay t (Err k) = Place lay t k
 
 abbrev Meant : Layout → List (List ℕ × Verdict) → Type 0
 Meant lay [] = Unit {0}
 Meant lay (e ∷ es) = Means lay e.0 e.1 × Meant lay es
 
 means : (lay : Layout) (t : List ℕ) (v : Verdict) → judge_of lay t ≡ v → Means lay t v
-means lay t (Good n) e = (good_iff_text lay t n).0 e
-means lay t (Bad k) e = (bad_iff_place lay t k).0 e
+means lay t (Ok n) e = (good_iff_text lay t n).0 e
+means lay t (Err k) e = (bad_iff_place lay t k).0 e
 
 meant : (lay : Layout) (es : List (List ℕ × Verdict)) → Judged lay es → Meant lay es
 meant lay [] h = tt
@@ -460,7 +460,7 @@ pub end_untyped : Untyped recording (i1 ++ o1 ++ end) 3
 unfolding mark_of run same body lines_of fields_from fields_in cube_of digits number_of other_key key_of typed_of row_line class_of of_fields line_of name_byte all_name name_ok holds good_names names_count same_fields names_in lacks lacks_none ready_of row_fits open_of fits_of header_allowed end_allowed row_allowed named allowed_by allowed_at next_at all_pass times
 end_untyped = record { before = lines_of (i1 ++ o1); line = 46 ∷ 101 ∷ []; after = []; lines = refl; number = refl; begins = sizes_begin; none = refl; ends = refl }
 
-pub untyped_refused : (judge_of recording (i1 ++ o1 ++ row ++ end) ≡ Bad 3) × (judge_of recording (i1 ++ o1 ++ end) ≡ Bad 3)
+pub untyped_refused : (judge_of recording (i1 ++ o1 ++ row ++ end) ≡ Err 3) × (judge_of recording (i1 ++ o1 ++ end) ≡ Err 3)
 untyped_refused = (untyped_bad recording refl _ 3 row_untyped, untyped_bad recording refl _ 3 end_untyped)
 
 pub end_missing : EndMissing recording (i1 ++ o1 ++ fr ++ row) 5

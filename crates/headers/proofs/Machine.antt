@@ -11,7 +11,7 @@ use Rattle.headers.specs.Verdicts.{finish_of, judge_lines}
 use Rattle.headers.specs.Accepted.{rows_in}
 use Rattle.headers.specs.Places.{is_end, end_in}
 use Rattle.headers.specs.declared.Layout.{Layout}
-use Rattle.headers.specs.declared.Verdict.TheVariants.{Bad}
+use Rattle.std.specs.Prelude.{Err}
 use Rattle.headers.proofs.Passing.{state_after, all_pass, pass_here, pass_more}
 use Rattle.headers.proofs.Seeing.{next_goes}
 
@@ -34,12 +34,12 @@ judge_passing lay (l ∷ ls) pt k h =
 
 -- the first line that does not pass is the place
 pub judge_stuck : (lay : Layout) (pre : List (List ℕ)) (l : List ℕ) (post : List (List ℕ)) (pt : Point) (k : ℕ) → passes lay pre pt k ≡ true
-    → allowed_at lay (after pre pt k) l ≡ false → judge_lines lay (pre ++ l ∷ post) pt k ≡ Bad (length pre + k)
+    → allowed_at lay (after pre pt k) l ≡ false → judge_lines lay (pre ++ l ∷ post) pt k ≡ Err (length pre + k)
 unfolding judge_lines state_after
-judge_stuck lay [] l post pt k h a = rw a (ap Bad (omega arith))
+judge_stuck lay [] l post pt k h a = rw a (ap Err (omega arith))
 judge_stuck lay (p ∷ pre) l post pt k h a =
     rw (pass_here (allowed_at lay) next_at p pre pt k h)
-    (judge_stuck lay pre l post (next_at pt p k) (k + 1) (pass_more (allowed_at lay) next_at p pre pt k h) a ∙ ap Bad (omega arith))
+    (judge_stuck lay pre l post (next_at pt p k) (k + 1) (pass_more (allowed_at lay) next_at p pre pt k h) a ∙ ap Err (omega arith))
 
 -- ---- what the state after lines says of them
 

@@ -22,8 +22,8 @@ use Rattle.headers.specs.Places.{Counts, Alike, Begins, end_in, FaultyLine, EndM
 use Rattle.headers.specs.declared.Layout.{Layout}
 use Rattle.headers.specs.declared.Header.TheVariants.{Count}
 use Rattle.headers.specs.declared.State.{State}
-use Rattle.headers.specs.declared.Verdict.{Verdict}
-use Rattle.headers.specs.declared.Verdict.TheVariants.{Good, Bad}
+use Rattle.headers.specs.Verdicts.{Verdict}
+use Rattle.std.specs.Prelude.{Ok, Err}
 use Rattle.headers.proofs.Passing.{state_after, all_pass, Stuck, pass_or_stuck, pass_first, pass_append, pass_others, after_append}
 use Rattle.headers.proofs.Machine.{passes, after, judge_passing, judge_stuck, after_rows, after_ended}
 use Rattle.headers.proofs.Seeing.{next_goes, has_next, count_line}
@@ -99,7 +99,7 @@ passes_begins lay ls clean h =
     let lines : lines_of (text_of (ms ++ c.0)) ≡ ms ++ c.0 = lines_of_text (ms ++ c.0) (append_no_feeds ms c.0 (recount_clean r ls clean) c.1.clean) in
     let rows : last.state.rows ≡ r = c.1.beside.rows ∙ after_rows ms fresh_point 1 ∙ zero-add (rows_in ms) ∙ recount_rows r ls in
     let wants : Wants r last.state = λ d. c.1.beside.want ∙ recount_wants r ls fresh_point 1 (λ z. none z) (sym c.1.beside.count ∙ d) in
-    let good : judge_lines lay (lines_of (text_of (ms ++ c.0))) fresh_point 1 ≡ Good last.state.size =
+    let good : judge_lines lay (lines_of (text_of (ms ++ c.0))) fresh_point 1 ≡ Ok last.state.size =
     ap (λ (x : List (List ℕ)). judge_lines lay x fresh_point 1) lines
     ∙ judge_passing lay (ms ++ c.0) fresh_point 1 (pass_append (allowed_at lay) next_at ms c.0 fresh_point 1 p c.1.passing)
     ∙ ap (λ (q : Point). finish_of q.state (length (ms ++ c.0) + 1)) (after_append next_at ms c.0 fresh_point 1)
@@ -148,7 +148,7 @@ module _ (lay : Layout) (t : List ℕ) where
 
   -- the first line that is not allowed is faulty, and the verdict's place
   module _ (pre : List (List ℕ)) (l : List ℕ) (post : List (List ℕ)) (e : lines_of t ≡ pre ++ l ∷ post) (p : passes lay pre fresh_point 1 ≡ true) where
-    stuck_verdict : allowed_at lay (after pre fresh_point 1) l ≡ false → judge_of lay t ≡ Bad (length pre + 1)
+    stuck_verdict : allowed_at lay (after pre fresh_point 1) l ≡ false → judge_of lay t ≡ Err (length pre + 1)
     unfolding judge_of
     stuck_verdict s = ap (λ (x : List (List ℕ)). judge_lines lay x fresh_point 1) e ∙ judge_stuck lay pre l post fresh_point 1 p s
 
@@ -164,9 +164,9 @@ module _ (lay : Layout) (t : List ℕ) where
     pre_clean : NoFeeds (pre ++ l ∷ [])
     pre_clean = first_no_feeds (pre ++ l ∷ []) post (rw (append_assoc pre (l ∷ []) post, ← e) (lines_no_feeds t))
 
-  stuck_faulty : (k : ℕ) → judge_of lay t ≡ Bad k → Stuck (allowed_at lay) next_at (lines_of t) fresh_point 1 → FaultyLine lay t k
+  stuck_faulty : (k : ℕ) → judge_of lay t ≡ Err k → Stuck (allowed_at lay) next_at (lines_of t) fresh_point 1 → FaultyLine lay t k
   stuck_faulty k h s =
-      let v : Bad k ≡ Bad (length s.before + 1) = sym h ∙ stuck_verdict s.before s.line s.after s.lines s.passed s.stopped in
+      let v : Err k ≡ Err (length s.before + 1) = sym h ∙ stuck_verdict s.before s.line s.after s.lines s.passed s.stopped in
       record {
         before = s.before;
         line = s.line;
@@ -180,11 +180,11 @@ module _ (lay : Layout) (t : List ℕ) where
       }
 
   -- a text whose lines all pass is refused only at its end
-  passing_place : (k : ℕ) → judge_of lay t ≡ Bad k → passes lay (lines_of t) fresh_point 1 ≡ true → EndMissing lay t k ⊎ WrongCount lay t k
+  passing_place : (k : ℕ) → judge_of lay t ≡ Err k → passes lay (lines_of t) fresh_point 1 ≡ true → EndMissing lay t k ⊎ WrongCount lay t k
   unfolding finish_of
   passing_place k h p = go last.ended refl last.seen.count refl (eqb last.want last.rows) refl (sym h ∙ passing_verdict p)
     where
-      wrong : last.ended ≡ true → last.seen.count ≡ true → eqb last.want last.rows ≡ false → Bad k ≡ Bad last.place → WrongCount lay t k
+      wrong : last.ended ≡ true → last.seen.count ≡ true → eqb last.want last.rows ≡ false → ◌≡◌ {A = Verdict} (Err k) (Err last.place) → WrongCount lay t k
       wrong e c w v =
           let i = count_in (lines_of t) fresh_point 1 refl c in
           let d : CountStood i.count (length i.before + 1) last = counted_at lay (lines_of t) i.before i.line i.after fresh_point 1 i.count i.lines i.counts p in
@@ -202,43 +202,43 @@ module _ (lay : Layout) (t : List ℕ) where
           }
 
       go : (e : Bool) → last.ended ≡ e → (c : Bool) → last.seen.count ≡ c → (w : Bool) → eqb last.want last.rows ≡ w
-          → Bad k ≡ cond e (cond c (cond w (Good last.size) (Bad last.place)) (Good last.size)) (Bad (length (lines_of t) + 1))
+          → Err k ≡ cond e (cond c (cond w (Ok last.size) (Err last.place)) (Ok last.size)) (Err (length (lines_of t) + 1))
           → EndMissing lay t k ⊎ WrongCount lay t k
       go false e c f w g v = inl (record { begins = passes_begins lay (lines_of t) (lines_no_feeds t) p; endless = sym ended_is ∙ e; number = cc })
       go true e false f w g v = absurd (good_or_bad last.size k (sym v))
       go true e true f true g v = absurd (good_or_bad last.size k (sym v))
       go true e true f false g v = inr (wrong e f g v)
 
-  pub bad_place : (k : ℕ) → judge_of lay t ≡ Bad k → Place lay t k
+  pub bad_place : (k : ℕ) → judge_of lay t ≡ Err k → Place lay t k
   bad_place k h = ⊎_elim (λ p. inr (passing_place k h p)) (λ s. inl (stuck_faulty k h s)) (pass_or_stuck (allowed_at lay) next_at (lines_of t) fresh_point 1)
 
-  faulty_bad : (k : ℕ) → FaultyLine lay t k → judge_of lay t ≡ Bad k
+  faulty_bad : (k : ℕ) → FaultyLine lay t k → judge_of lay t ≡ Err k
   faulty_bad k f = go (allowed_at lay (after f.before fresh_point 1) f.line) refl
     where
       passed : passes lay f.before fresh_point 1 ≡ true
       passed = begins_passes lay f.before f.begins
 
-      go : (a : Bool) → allowed_at lay (after f.before fresh_point 1) f.line ≡ a → judge_of lay t ≡ Bad k
+      go : (a : Bool) → allowed_at lay (after f.before fresh_point 1) f.line ≡ a → judge_of lay t ≡ Err k
       go true a =
           absurd (f.begins_no_more (passes_begins lay (f.before ++ f.line ∷ []) (pre_clean f.before f.line f.after f.lines passed)
           (one_more_back f.before f.line f.after f.lines passed a)))
-      go false a = stuck_verdict f.before f.line f.after f.lines passed a ∙ ap Bad (sym f.number)
+      go false a = stuck_verdict f.before f.line f.after f.lines passed a ∙ ap Err (sym f.number)
 
-  missing_bad : (k : ℕ) → EndMissing lay t k → judge_of lay t ≡ Bad k
+  missing_bad : (k : ℕ) → EndMissing lay t k → judge_of lay t ≡ Err k
   unfolding finish_of
-  missing_bad k m = passing_verdict (begins_passes lay (lines_of t) m.begins) ∙ rw (ended_is ∙ m.endless) (ap Bad (sym m.number))
+  missing_bad k m = passing_verdict (begins_passes lay (lines_of t) m.begins) ∙ rw (ended_is ∙ m.endless) (ap Err (sym m.number))
 
-  count_bad : (k : ℕ) → WrongCount lay t k → judge_of lay t ≡ Bad k
+  count_bad : (k : ℕ) → WrongCount lay t k → judge_of lay t ≡ Err k
   unfolding finish_of
   count_bad k w =
       let p = begins_passes lay (lines_of t) w.begins in
       let d : CountStood w.count (length w.before + 1) last = counted_at lay (lines_of t) w.before w.line w.after fresh_point 1 w.count w.lines w.counts p in
       passing_verdict p
       ∙ rw (ended_is ∙ w.ended, d.is, ne_eqb last.want last.rows (λ q. w.wrong (sym d.count ∙ q ∙ rows_are)))
-      (ap Bad (d.at ∙ sym w.number))
+      (ap Err (d.at ∙ sym w.number))
 
   -- a text is refused at k exactly when k is the place of a fault as 01 defines it
-  pub bad_iff_place : (k : ℕ) → (judge_of lay t ≡ Bad k) ↔ Place lay t k
+  pub bad_iff_place : (k : ℕ) → (judge_of lay t ≡ Err k) ↔ Place lay t k
   bad_iff_place k = (bad_place k, λ p. ⊎_elim (faulty_bad k) (λ q. ⊎_elim (missing_bad k) (count_bad k) q) p)
 
 -- ---- the definitions leave no choice
@@ -249,8 +249,8 @@ module _ (lay : Layout) (t : List ℕ) where
   accepted_or_place = go (judge_of lay t) refl
     where
       go : (v : Verdict) → judge_of lay t ≡ v → ((n : ℕ) × Accepted lay n t) ⊎ ((k : ℕ) × Place lay t k)
-      go (Good n) e = inl (n, (good_iff_text lay t n).0 e)
-      go (Bad k) e = inr (k, (bad_iff_place lay t k).0 e)
+      go (Ok n) e = inl (n, (good_iff_text lay t n).0 e)
+      go (Err k) e = inr (k, (bad_iff_place lay t k).0 e)
 
   -- and not both
   pub accepted_no_place : (n k : ℕ) → Accepted lay n t → Place lay t k → ⊥
@@ -260,11 +260,11 @@ module _ (lay : Layout) (t : List ℕ) where
   pub one_size : (n m : ℕ) → Accepted lay n t → Accepted lay m t → n ≡ m
   one_size n m a b = go (sym ((good_iff_text lay t n).1 a) ∙ (good_iff_text lay t m).1 b)
     where
-      go : Good n ≡ Good m → n ≡ m
+      go : ◌≡◌ {A = Verdict} (Ok n) (Ok m) → n ≡ m
       go e = cc
 
   pub one_place : (k j : ℕ) → Place lay t k → Place lay t j → k ≡ j
   one_place k j p q = go (sym ((bad_iff_place lay t k).1 p) ∙ (bad_iff_place lay t j).1 q)
     where
-      go : Bad k ≡ Bad j → k ≡ j
+      go : ◌≡◌ {A = Verdict} (Err k) (Err j) → k ≡ j
       go e = cc

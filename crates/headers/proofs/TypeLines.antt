@@ -24,7 +24,7 @@ use Rattle.headers.specs.declared.Header.{Header}
 use Rattle.headers.specs.declared.Header.TheVariants.{TypeWord}
 use Rattle.headers.specs.declared.Seen.{Seen}
 use Rattle.headers.specs.declared.State.{State}
-use Rattle.headers.specs.declared.Verdict.TheVariants.{Bad}
+use Rattle.std.specs.Prelude.{Err}
 use Rattle.headers.proofs.Passing.{state_after, pass_here, pass_others, pass_weaker, Stuck, pass_or_stuck}
 use Rattle.headers.proofs.Seeing.{ready_e, end_ready, has_next}
 use Rattle.headers.proofs.Machine.{passes, after, judge_passing, judge_stuck}
@@ -93,7 +93,7 @@ module _ (lay : Layout) (required : lay.typed ≡ true) (t : List ℕ) (k : ℕ)
             false≢true (sym (after_none TypeWord u.before fresh_point 1 u.none) ∙ ends_typed lay (after u.before fresh_point 1) u.line required u.ends a);
       }
 
-  pub untyped_bad : judge_of lay t ≡ Bad k
+  pub untyped_bad : judge_of lay t ≡ Err k
   untyped_bad = (bad_iff_place lay t k).1 (inl untyped_faulty)
 
 -- ---- every other text is judged as where the line may be left out
@@ -168,7 +168,7 @@ module _ (lay : Layout) where
     stuck s = go (allowed_at free (after s.before fresh_point 1) s.line) refl
       where
         bad : (any : Layout) → passes any s.before fresh_point 1 ≡ true → allowed_at any (after s.before fresh_point 1) s.line ≡ false
-            → judge_lines any (lines_of t) fresh_point 1 ≡ Bad (length s.before + 1)
+            → judge_lines any (lines_of t) fresh_point 1 ≡ Err (length s.before + 1)
         bad any p a = ap (λ (x : List (List ℕ)). judge_lines any x fresh_point 1) s.lines ∙ judge_stuck any s.before s.line s.after fresh_point 1 p a
 
         go : (f : Bool) → allowed_at free (after s.before fresh_point 1) s.line ≡ f → Either

@@ -1,4 +1,4 @@
-// What a layout asks of a text, which headers there are, what is known after some lines, and the verdict: types only, `judging` has the code.
+// What a layout asks of a text, which headers there are, and what is known after some lines: types only, `judging` has the code.
 #![tactic(auto)]
 
 use lines::{Kind, Part};
@@ -44,11 +44,4 @@ pub struct State {
     pub place: usize,
     pub rows: u64,
     pub ended: bool,
-}
-
-// A text keeps the layout, for a panel of so many relays, or its fault has a place.
-#[derive(Clone, Copy)]
-pub enum Verdict {
-    Good(u32),
-    Bad(usize),
 }

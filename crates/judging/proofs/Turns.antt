@@ -17,8 +17,8 @@ use Rattle.lines.specs.declared.Line.{Line}
 use Rattle.headers.specs.Headers.{allowed_of, is_names, agrees_of, held_of, next_of, Point, allowed_by, fresh_state, fresh_point}
 use Rattle.headers.specs.Verdicts.{finish_of, judge_of}
 use Rattle.headers.specs.declared.State.{State}
-use Rattle.headers.specs.declared.Verdict.{Verdict}
-use Rattle.headers.specs.declared.Verdict.TheVariants.{Bad}
+use Rattle.headers.specs.Verdicts.{Verdict}
+use Rattle.std.specs.Prelude.{Err}
 use Rattle.judging.proofs.Kept.{judge_kept, judge_kept_lem}
 
 -- the point of a state whose name line stands between two places
@@ -64,12 +64,12 @@ module _ (lay : Layout) (text : List ℕ) (at e : ℕ) (h : at < length text) (h
       → allowed_by lay (point_at text st from to) (keep_line (line_of (take (e - at) (drop at text)))) own ≡ (x && y)
   passed f hf x y p q = both f hf ∙ ap (λ (t : Bool). t && f) p ∙ ap (λ (t : Bool). x && t) q
 
-  pub turn_bad : a ≡ false → Bad k ≡ v
+  pub turn_bad : a ≡ false → Err k ≡ v
   unfolding judge_kept
   turn_bad p = rw (line_at text at e h he, passed (agrees_of st.seen held l own) refl false (agrees_of st.seen held l own) p refl) at inv
 
   module _ (f : Bool) (hf : f ≡ agrees_of st.seen (names_in (take (to - from) (drop from text))) l (names_in (take (e - at) (drop at text)))) (p : a ≡ true) where
-    pub turn_unlike : f ≡ false → Bad k ≡ v
+    pub turn_unlike : f ≡ false → Err k ≡ v
     unfolding judge_kept
     turn_unlike q = rw (line_at text at e h he, passed f hf true false p q) at inv
 

@@ -7,7 +7,7 @@ ghost use Rattle.headers.specs.Layouts.{recording, sheet, asks};
 ghost use Rattle.headers.specs.Headers.{has_header, lacks, ready_of, same_kind, only_on, row_fits, open_of, fits_of, header_allowed, row_allowed, end_allowed, allowed_of, named, is_names, agrees_of, held_of, with_header, next_of};
 ghost use Rattle.headers.specs.Verdicts.{finish_of, judge_of};
 
-use headers::{Header, Layout, Seen, State, Verdict};
+use headers::{Header, Layout, Seen, State};
 use lines::{Kind, Line, Masks, Part};
 
 // What is asked of a recording.
@@ -358,23 +358,23 @@ fn held_at(l: Line, own: usize, held: usize) -> usize
 }
 
 // What is judged at the end of the text, k being the number after the last line.
-fn finish(st: State, k: usize) -> Verdict
+fn finish(st: State, k: usize) -> Result<u32, usize>
     ensures { result ≡ finish_of st k }
 {
     if !st.ended {
-        return Verdict::Bad(k);
+        return Err(k);
     }
     if !st.seen.count {
-        return Verdict::Good(st.size);
+        return Ok(st.size);
     }
     if st.want == st.rows {
-        Verdict::Good(st.size)
+        Ok(st.size)
     } else {
-        Verdict::Bad(st.place)
+        Err(st.place)
     }
 }
 
-pub fn judge(lay: Layout, text: &[u8]) -> Verdict
+pub fn judge(lay: Layout, text: &[u8]) -> Result<u32, usize>
     ensures { result ≡ judge_of lay text.now }
 {
     let mut st = State {
@@ -400,11 +400,11 @@ pub fn judge(lay: Layout, text: &[u8]) -> Verdict
         let e = fields::line_end(text, at);
         let l = lines::scan_line(&text[at..e]);
         if !allowed(lay, st, l) {
-            return Verdict::Bad(k);
+            return Err(k);
         }
         let s = st.seen;
         if !agrees(s, &text[from..to], l, &text[at..e]) {
-            return Verdict::Bad(k);
+            return Err(k);
         }
         st = next(st, l, k);
         from = held_at(l, at, from);

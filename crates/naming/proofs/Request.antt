@@ -24,8 +24,8 @@ use Rattle.headers.specs.Accepted.{is_header, one, times, RowLine, EmptyLine, Al
 use Rattle.headers.specs.declared.Header.{Header}
 use Rattle.headers.specs.declared.Header.TheVariants.{Names, TypeWord}
 use Rattle.headers.specs.declared.Layout.{Layout}
-use Rattle.headers.specs.declared.Verdict.{Verdict}
-use Rattle.headers.specs.declared.Verdict.TheVariants.{Good, Bad}
+use Rattle.headers.specs.Verdicts.{Verdict}
+use Rattle.std.specs.Prelude.{Ok, Err}
 use Rattle.headers.proofs.Accepting.{good_iff_text}
 use Rattle.headers.proofs.Sizes.{times_append}
 use Rattle.headers.proofs.OneKind.{typed_stands, never_both}
@@ -94,14 +94,14 @@ home_of_none lay n t x w = go (home_of t) refl
 -- ---- what the texts say
 
 -- a text of either kind is judged as what it is: no text is of both
-either_good : (kind : Kind) (n : ℕ) (t : List ℕ) → Accepted (layout_of kind) n t → judge_either t ≡ Good n
+either_good : (kind : Kind) (n : ℕ) (t : List ℕ) → Accepted (layout_of kind) n t → judge_either t ≡ Ok n
 unfolding judge_either
 either_good Recording n t x = rw ((good_iff_text recording t n).1 x)
 either_good Sheet n t x = go (judge_of recording t) refl
   where
-    go : (v : Verdict) → judge_of recording t ≡ v → either_of v (judge_of sheet t) ≡ Good n
-    go (Good m) e = absurd (never_both m n t ((good_iff_text recording t m).0 e) x)
-    go (Bad k) e = (good_iff_text sheet t n).1 x
+    go : (v : Verdict) → judge_of recording t ≡ v → either_of v (judge_of sheet t) ≡ Ok n
+    go (Ok m) e = absurd (never_both m n t ((good_iff_text recording t m).0 e) x)
+    go (Err k) e = (good_iff_text sheet t n).1 x
 
 naming_with : (kind : Kind) (n : ℕ) (t : List ℕ) (x : Accepted (layout_of kind) n t) (a e : ℕ) → home_of t ≡ Stands a e → naming_of t ≡ Named n a e
 unfolding naming_of
@@ -116,9 +116,9 @@ unfolding naming_of judge_either
 naming_refused t b = go (judge_of recording t) refl (judge_of sheet t) refl
   where
     go : (v : Verdict) → judge_of recording t ≡ v → (w : Verdict) → judge_of sheet t ≡ w → naming_for (either_of v w) (home_of t) ≡ Refused
-    go (Good n) g w e = absurd (b Recording n ((good_iff_text recording t n).0 g))
-    go (Bad k) g (Good n) e = absurd (b Sheet n ((good_iff_text sheet t n).0 e))
-    go (Bad k) g (Bad j) e = refl
+    go (Ok n) g w e = absurd (b Recording n ((good_iff_text recording t n).0 g))
+    go (Err k) g (Ok n) e = absurd (b Sheet n ((good_iff_text sheet t n).0 e))
+    go (Err k) g (Err j) e = refl
 
 -- every text says what it said where recordings alone were read, or is a sheet (02, Ask 3)
 pub as_before_or_sheet : (t : List ℕ) → (naming_of t ≡ naming_for (judge_of recording t) (home_of t)) ⊎ ((n : ℕ) × Accepted sheet n t)
@@ -126,9 +126,9 @@ unfolding naming_of judge_either
 as_before_or_sheet t = go (judge_of recording t) (judge_of sheet t) refl
   where
     go : (v w : Verdict) → judge_of sheet t ≡ w → (naming_for (either_of v w) (home_of t) ≡ naming_for v (home_of t)) ⊎ ((n : ℕ) × Accepted sheet n t)
-    go (Good n) w e = inl refl
-    go (Bad k) (Good n) e = inr (n, (good_iff_text sheet t n).0 e)
-    go (Bad k) (Bad j) e = inl refl
+    go (Ok n) w e = inl refl
+    go (Err k) (Ok n) e = inr (n, (good_iff_text sheet t n).0 e)
+    go (Err k) (Err j) e = inl refl
 
 -- ---- the answers
 

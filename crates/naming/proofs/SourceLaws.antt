@@ -17,8 +17,8 @@ use Rattle.lines.specs.declared.Kind.TheVariants.{Recording, Sheet}
 use Rattle.headers.specs.Layouts.{recording, sheet, layout_of}
 use Rattle.headers.specs.Verdicts.{judge_of}
 use Rattle.headers.specs.declared.Layout.{Layout}
-use Rattle.headers.specs.declared.Verdict.{Verdict}
-use Rattle.headers.specs.declared.Verdict.TheVariants.{Good, Bad}
+use Rattle.headers.specs.Verdicts.{Verdict}
+use Rattle.std.specs.Prelude.{Ok, Err}
 use Rattle.naming.specs.Naming.{home_of, either_of, judge_either, naming_for, naming_of, makers_source, source_for, source_of, no_name, spot_at, spot_in, spot_of, Within, PartOf}
 use Rattle.naming.specs.Columns.{line_in, name_line}
 use Rattle.naming.specs.declared.Home.{Home}
@@ -37,41 +37,41 @@ module _ (t : List ℕ) (lay : Layout) (v : Verdict) (hl : lay ≡ recording) (h
   verdict_is : judge_of recording t ≡ v
   verdict_is = sym (hv ∙ ap (λ (l : Layout). judge_of l t) hl)
 
-  pub either_first : (n : ℕ) → v ≡ Good n → Good n ≡ judge_either t
+  pub either_first : (n : ℕ) → v ≡ Ok n → Ok n ≡ judge_either t
   unfolding judge_either
   either_first n g = rw (verdict_is, g)
 
-  pub either_second : (k : ℕ) (other : Layout) (r : Verdict) → v ≡ Bad k → other ≡ sheet → r ≡ judge_of other t → r ≡ judge_either t
+  pub either_second : (k : ℕ) (other : Layout) (r : Verdict) → v ≡ Err k → other ≡ sheet → r ≡ judge_of other t → r ≡ judge_either t
   unfolding judge_either
   either_second k other r g ho hr = hr ∙ ap (λ (l : Layout). judge_of l t) ho ∙ rw (verdict_is, g)
 
 -- by the verdict on it
-pub naming_good : (t : List ℕ) (v : Verdict) → v ≡ judge_either t → (n : ℕ) (h : Home) (r : Naming) → v ≡ Good n → h ≡ home_of t → r ≡ naming_for (Good n) h → r ≡ naming_of t
+pub naming_good : (t : List ℕ) (v : Verdict) → v ≡ judge_either t → (n : ℕ) (h : Home) (r : Naming) → v ≡ Ok n → h ≡ home_of t → r ≡ naming_for (Ok n) h → r ≡ naming_of t
 unfolding naming_of
 naming_good t v hv n h r g e q = q ∙ rw (← hv, g, e)
 
-pub naming_bad : (t : List ℕ) (v : Verdict) → v ≡ judge_either t → (k : ℕ) → v ≡ Bad k → Refused ≡ naming_of t
+pub naming_bad : (t : List ℕ) (v : Verdict) → v ≡ judge_either t → (k : ℕ) → v ≡ Err k → Refused ≡ naming_of t
 unfolding naming_of
 naming_bad t v hv k g = rw (← hv, g)
 
 -- a good text of either kind is good for one of them
-either_kind : (t : List ℕ) (n : ℕ) → judge_either t ≡ Good n → (kind : Kind) × (judge_of (layout_of kind) t ≡ Good n)
+either_kind : (t : List ℕ) (n : ℕ) → judge_either t ≡ Ok n → (kind : Kind) × (judge_of (layout_of kind) t ≡ Ok n)
 unfolding judge_either
 either_kind t n h = go (judge_of recording t) refl h
   where
-    go : (v : Verdict) → judge_of recording t ≡ v → either_of v (judge_of sheet t) ≡ Good n → (kind : Kind) × (judge_of (layout_of kind) t ≡ Good n)
-    go (Good m) e q = (Recording, e ∙ q)
-    go (Bad k) e q = (Sheet, q)
+    go : (v : Verdict) → judge_of recording t ≡ v → either_of v (judge_of sheet t) ≡ Ok n → (kind : Kind) × (judge_of (layout_of kind) t ≡ Ok n)
+    go (Ok m) e q = (Recording, e ∙ q)
+    go (Err k) e q = (Sheet, q)
 
 -- a text that names columns is a good one, and has an `.ilb` line
-pub naming_e : (t : List ℕ) (n a e : ℕ) → naming_of t ≡ Named n a e → ((kind : Kind) × (judge_of (layout_of kind) t ≡ Good n)) × (home_of t ≡ Stands a e)
+pub naming_e : (t : List ℕ) (n a e : ℕ) → naming_of t ≡ Named n a e → ((kind : Kind) × (judge_of (layout_of kind) t ≡ Ok n)) × (home_of t ≡ Stands a e)
 unfolding naming_of
 naming_e t n a e h = let k = go (judge_either t) refl (home_of t) refl h in (either_kind t n k.0, k.1)
   where
-    go : (v : Verdict) → judge_either t ≡ v → (m : Home) → home_of t ≡ m → naming_for v m ≡ Named n a e → (judge_either t ≡ Good n) × (home_of t ≡ Stands a e)
-    go (Bad k) p m q h = absurd (let z : ◌≡◌ {A = ℕ} 0 1 = cc in omega arith)
-    go (Good k) p Nowhere q h = absurd (let z : ◌≡◌ {A = ℕ} 0 1 = cc in omega arith)
-    go (Good k) p (Stands b f) q h = (cc, cc)
+    go : (v : Verdict) → judge_either t ≡ v → (m : Home) → home_of t ≡ m → naming_for v m ≡ Named n a e → (judge_either t ≡ Ok n) × (home_of t ≡ Stands a e)
+    go (Err k) p m q h = absurd (let z : ◌≡◌ {A = ℕ} 0 1 = cc in omega arith)
+    go (Ok k) p Nowhere q h = absurd (let z : ◌≡◌ {A = ℕ} 0 1 = cc in omega arith)
+    go (Ok k) p (Stands b f) q h = (cc, cc)
 
 -- the line from a to e lies in its text
 pub named_in : (t : List ℕ) (n a e : ℕ) → naming_of t ≡ Named n a e → (a ≤ e) × (e ≤ length t)

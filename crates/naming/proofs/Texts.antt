@@ -23,7 +23,7 @@ use Rattle.headers.specs.Accepted.{is_header, one, times, rows_in, HeaderLine, R
 use Rattle.headers.specs.Places.{is_aside}
 use Rattle.headers.specs.declared.Layout.{Layout}
 use Rattle.headers.specs.declared.Header.TheVariants.{Names}
-use Rattle.headers.specs.declared.Verdict.TheVariants.{Good}
+use Rattle.std.specs.Prelude.{Ok}
 use Rattle.headers.proofs.Accepting.{good_iff_text}
 use Rattle.headers.proofs.Sizes.{text_all}
 use Rattle.headers.proofs.Seeing.{same_part_lem}
@@ -133,5 +133,5 @@ nowhere_nameless lay t n x h p =
 -- ---- by the verdict
 
 -- a good text with an `.ilb` line
-pub good_named : (lay : Layout) (t : List ℕ) (n a e : ℕ) → judge_of lay t ≡ Good n → home_of t ≡ Stands a e → NamedText t n a e
+pub good_named : (lay : Layout) (t : List ℕ) (n a e : ℕ) → judge_of lay t ≡ Ok n → home_of t ≡ Stands a e → NamedText t n a e
 good_named lay t n a e g h = accepted_named lay t n a e ((good_iff_text lay t n).0 g) h

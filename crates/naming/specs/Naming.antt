@@ -1,5 +1,5 @@
 -- The name of a column: which part of which of two texts it is.
-use Rattle.std.specs.Prelude.{ℕ, ◌+◌, ◌-◌, ◌≤◌, ◌≡◌, List, [], ◌∷◌, Bool, true, false, cond, ltb, length, take, drop}
+use Rattle.std.specs.Prelude.{ℕ, ◌+◌, ◌-◌, ◌≤◌, ◌≡◌, List, [], ◌∷◌, Bool, true, false, cond, ltb, length, take, drop, Ok, Err}
 use Rattle.std.specs.Borrow.{Bor}
 use Rattle.fields.specs.Texts.{lines_of}
 use Rattle.fields.specs.declared.Span.{Span}
@@ -11,8 +11,7 @@ use Rattle.headers.specs.Accepted.{is_header}
 use Rattle.headers.specs.Verdicts.{judge_of}
 use Rattle.headers.specs.Places.{is_aside}
 use Rattle.headers.specs.declared.Header.TheVariants.{Names}
-use Rattle.headers.specs.declared.Verdict.{Verdict}
-use Rattle.headers.specs.declared.Verdict.TheVariants.{Good, Bad}
+use Rattle.headers.specs.Verdicts.{Verdict}
 use Rattle.naming.specs.declared.Home.{Home}
 use Rattle.naming.specs.declared.Home.TheVariants.{Stands, Nowhere}
 use Rattle.naming.specs.declared.Naming.{Naming}
@@ -36,8 +35,8 @@ home_of t = home_from 0 (lines_of t)
 
 -- the first verdict, and where that is bad the second
 abbrev pub either_of : Verdict → Verdict → Verdict
-either_of (Good n) v = Good n
-either_of (Bad k) v = v
+either_of (Ok n) v = Ok n
+either_of (Err k) v = v
 
 -- the verdict on a text of either kind: as a recording, and where that is bad as a sheet
 unfoldable pub judge_either : List ℕ → Verdict
@@ -45,9 +44,9 @@ judge_either t = either_of (judge_of recording t) (judge_of sheet t)
 
 -- by the verdict on a text and its `.ilb` line
 abbrev pub naming_for : Verdict → Home → Naming
-naming_for (Bad k) h = Refused
-naming_for (Good n) Nowhere = Nameless
-naming_for (Good n) (Stands a e) = Named n a e
+naming_for (Err k) h = Refused
+naming_for (Ok n) Nowhere = Nameless
+naming_for (Ok n) (Stands a e) = Named n a e
 
 -- what a text says of names: both readers refuse it with 11, it has no name lines, or it names n columns in the line from a to e
 unfoldable pub naming_of : List ℕ → Naming

@@ -1,18 +1,16 @@
 // The name of a column: a part of the panel's text, or else of the maker's.
 #![tactic(auto)]
 
-ghost use Rattle.std.specs.Prelude.{◌≡◌, ◌≤◌, length};
+ghost use Rattle.std.specs.Prelude.{◌≡◌, ◌≤◌, length, Ok};
 ghost use Rattle.lines.specs.declared.Part.TheVariants.{Ins};
 ghost use Rattle.lines.specs.Lines.{view_of};
 ghost use Rattle.headers.specs.Layouts.{same_part};
 ghost use Rattle.headers.specs.Accepted.{is_header};
 ghost use Rattle.headers.specs.Places.{is_aside};
 ghost use Rattle.headers.specs.declared.Header.TheVariants.{Names};
-ghost use Rattle.headers.specs.declared.Verdict.TheVariants.{Good};
 ghost use Rattle.naming.specs.Naming.{home_of, judge_either, naming_for, naming_of, makers_source, source_of, no_name, spot_in, spot_of, Within, PartOf};
 ghost use Rattle.naming.specs.Columns.{line_in, name_line};
 
-use headers::Verdict;
 use lines::{Line, Part, View};
 
 // Where the `.ilb` line of a text stands.
@@ -102,7 +100,7 @@ fn find_home(text: &[u8]) -> Home
 }
 
 fn named_by(n: u32, h: Home) -> Naming
-    ensures { result ≡ naming_for (Good n) h }
+    ensures { result ≡ naming_for (Ok n) h }
 {
     match h {
         Home::Stands(a, e) => Naming::Named(n, a, e),
@@ -111,13 +109,13 @@ fn named_by(n: u32, h: Home) -> Naming
 }
 
 // The verdict on a text of either kind.
-fn judge_either(text: &[u8]) -> Verdict
+fn judge_either(text: &[u8]) -> Result<u32, usize>
     ensures { result ≡ judge_either text.now }
 {
     let v = judging::judge(judging::recording_layout(), text);
     match v {
-        Verdict::Good(n) => Verdict::Good(n),
-        Verdict::Bad(_) => judging::judge(judging::sheet_layout(), text),
+        Ok(n) => Ok(n),
+        Err(_) => judging::judge(judging::sheet_layout(), text),
     }
 }
 
@@ -126,8 +124,8 @@ fn naming_of(text: &[u8]) -> Naming
 {
     let v = judge_either(text);
     match v {
-        Verdict::Good(n) => named_by(n, find_home(text)),
-        Verdict::Bad(_) => Naming::Refused,
+        Ok(n) => named_by(n, find_home(text)),
+        Err(_) => Naming::Refused,
     }
 }
 

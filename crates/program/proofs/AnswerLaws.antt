@@ -14,8 +14,8 @@ use Rattle.fields.proofs.TextLaws.{lines_few}
 use Rattle.headers.specs.Layouts.{recording}
 use Rattle.headers.specs.Verdicts.{judge_of}
 use Rattle.headers.specs.Places.{Place}
-use Rattle.headers.specs.declared.Verdict.{Verdict}
-use Rattle.headers.specs.declared.Verdict.TheVariants.{Good, Bad}
+use Rattle.headers.specs.Verdicts.{Verdict}
+use Rattle.std.specs.Prelude.{Ok, Err}
 use Rattle.headers.proofs.PlaceLaws.{bad_iff_place}
 use Rattle.reading.specs.Rows.{text_words}
 use Rattle.reading.specs.Reading.{refusal, answer_for, read_answer, read_list, laid_answer}
@@ -31,7 +31,7 @@ use Rattle.program.proofs.RunLaws.{count_within}
 -- ---- reading
 
 -- a fault is on a line of the text, or on the line after the last
-place_small : (t : List ℕ) (k : ℕ) → judge_of recording t ≡ Bad k → k ≤ length t + 1
+place_small : (t : List ℕ) (k : ℕ) → judge_of recording t ≡ Err k → k ≤ length t + 1
 place_small t k e = go ((bad_iff_place recording t k).0 e)
   where
     go : Place recording t k → k ≤ length t + 1
@@ -49,8 +49,8 @@ read_small t room = go (judge_of recording t) refl
     good n k false = (omega arith, omega arith)
 
     go : (v : Verdict) → judge_of recording t ≡ v → ((answer_for v (text_words t) room).code ≤ 11) × ((answer_for v (text_words t) room).place ≤ length t + 1)
-    go (Bad p) e = (omega arith, place_small t p e)
-    go (Good n) e = good n (length (text_words t)) (leb (length (text_words t)) room)
+    go (Err p) e = (omega arith, place_small t p e)
+    go (Ok n) e = good n (length (text_words t)) (leb (length (text_words t)) room)
 
 entry_small : (t : List ℕ) (room : ℕ) → (reading_code t room ≤ 13) × (reading_place t room ≤ 24577)
 unfolding reading_code reading_place

@@ -13,8 +13,8 @@ use Rattle.answers.specs.Answers.{refuse}
 use Rattle.answers.specs.declared.Answer.{Answer}
 use Rattle.headers.specs.Layouts.{recording}
 use Rattle.headers.specs.Verdicts.{judge_of}
-use Rattle.headers.specs.declared.Verdict.{Verdict}
-use Rattle.headers.specs.declared.Verdict.TheVariants.{Good, Bad}
+use Rattle.headers.specs.Verdicts.{Verdict}
+use Rattle.std.specs.Prelude.{Ok, Err}
 use Rattle.reading.specs.Rows.{text_words}
 use Rattle.reading.specs.Reading.{refusal, answer_for, read_answer, read_list, Reads, laid_answer}
 use Rattle.reading.specs.declared.ReadAnswer.{ReadAnswer}
@@ -127,8 +127,8 @@ count_within t room = go (judge_of recording t)
     many ws n false e = omega arith
 
     go : (v : Verdict) → (answer_for v (text_words t) room).count ≤ room
-    go (Bad p) = omega arith
-    go (Good n) = many (text_words t) n (leb (length (text_words t)) room) refl
+    go (Err p) = omega arith
+    go (Ok n) = many (text_words t) n (leb (length (text_words t)) room) refl
 
 pub read_count : (t before after : List ℕ) (a : ReadAnswer) → Reads t before after a → a.count ≤ length before
 read_count t before after a h = rw h.answer (count_within t (length before))

@@ -10,8 +10,8 @@ use Rattle.headers.specs.Accepted.{Accepted}
 use Rattle.headers.specs.Places.{Place}
 use Rattle.headers.specs.Verdicts.{judge_of}
 use Rattle.headers.specs.declared.Layout.{Layout}
-use Rattle.headers.specs.declared.Verdict.{Verdict}
-use Rattle.headers.specs.declared.Verdict.TheVariants.{Good, Bad}
+use Rattle.headers.specs.Verdicts.{Verdict}
+use Rattle.std.specs.Prelude.{Ok, Err}
 use Rattle.headers.proofs.Accepting.{good_iff_text}
 use Rattle.headers.proofs.PlaceLaws.{bad_iff_place, accepted_no_place}
 use Rattle.naming.specs.Answers.{BadText}
@@ -26,8 +26,8 @@ fault_of : (lay : Layout) (t : List ℕ) → ((n : ℕ) → Accepted lay n t →
 fault_of lay t none = go (judge_of lay t) refl
   where
     go : (v : Verdict) → judge_of lay t ≡ v → (k : ℕ) × Place lay t k
-    go (Good n) e = absurd (none n ((good_iff_text lay t n).0 e))
-    go (Bad k) e = (k, (bad_iff_place lay t k).0 e)
+    go (Ok n) e = absurd (none n ((good_iff_text lay t n).0 e))
+    go (Err k) e = (k, (bad_iff_place lay t k).0 e)
 
 module _ {t list list' words words' : List ℕ} {r s : ReadAnswer} (h : Reads t list list' r) (q : ReadsSheet t words words' s) where
   pub bad_iff_both_11 : BadText t ↔ ((r.code ≡ 11) × (s.code ≡ 11))

@@ -29,8 +29,8 @@ use Rattle.headers.specs.Layouts.{recording, sheet}
 use Rattle.headers.specs.Accepted.{Accepted}
 use Rattle.headers.specs.Verdicts.{judge_of}
 use Rattle.headers.proofs.Accepting.{good_iff_text}
-use Rattle.headers.specs.declared.Verdict.{Verdict}
-use Rattle.headers.specs.declared.Verdict.TheVariants.{Good, Bad}
+use Rattle.headers.specs.Verdicts.{Verdict}
+use Rattle.std.specs.Prelude.{Ok, Err}
 use Rattle.reading.specs.Rows.{text_words, sheet_words}
 use Rattle.returned.specs.Returned.{sheet_answer_for, sheet_answer, ReadsSheet}
 use Rattle.sorting.specs.Orders.{sorted}
@@ -350,25 +350,25 @@ module _ {n : ℕ} {a b : Piece} {book sheet book' sheet' : List ℕ} {r : Answe
 -- ---- text
 
 -- 8 of a text that is bad: never
-bad_ladder : (k : ℕ) (ws : List ℕ) (room : ℕ) → ((refusal 11 k).code ≡ 8) ↔ (((n : ℕ) × (Bad k ≡ Good n)) × (room < length ws))
+bad_ladder : (k : ℕ) (ws : List ℕ) (room : ℕ) → ((refusal 11 k).code ≡ 8) ↔ (((n : ℕ) × (◌≡◌ {A = Verdict} (Err k) (Ok n))) × (room < length ws))
 bad_ladder k ws room = (λ e. absurd (omega (arith, e)), λ f. absurd (never f.0.0 f.0.1))
   where
-    never : (n : ℕ) → Bad k ≡ Good n → ⊥
+    never : (n : ℕ) → ◌≡◌ {A = Verdict} (Err k) (Ok n) → ⊥
     never n e = let z : ◌≡◌ {A = ℕ} 0 1 = cc in omega arith
 
 -- of a good one: exactly where its words are more than the room, if what is answered else is no 8
 good_ladder : (n : ℕ) (ws : List ℕ) (room : ℕ) (d : ReadAnswer) → (d.code ≡ 8 → ⊥) → (b : Bool) → leb (length ws) room ≡ b
-    → ((cond b d (refusal 8 0)).code ≡ 8) ↔ (((m : ℕ) × (Good n ≡ Good m)) × (room < length ws))
+    → ((cond b d (refusal 8 0)).code ≡ 8) ↔ (((m : ℕ) × (◌≡◌ {A = Verdict} (Ok n) (Ok m))) × (room < length ws))
 good_ladder n ws room d other true e = (λ q. absurd (other q), λ f. absurd (omega (arith, f.1, leb-true (length ws) room e)))
 good_ladder n ws room d other false e = (λ q. ((n, refl), leb-false (length ws) room e), λ f. refl)
 
-read_ladder : (v : Verdict) (ws : List ℕ) (room : ℕ) → ((answer_for v ws room).code ≡ 8) ↔ (((n : ℕ) × (v ≡ Good n)) × (room < length ws))
-read_ladder (Bad k) ws room = bad_ladder k ws room
-read_ladder (Good n) ws room = good_ladder n ws room (record { code = 0; place = 0; n = n; count = length ws }) (λ q. omega (arith, q)) (leb (length ws) room) refl
+read_ladder : (v : Verdict) (ws : List ℕ) (room : ℕ) → ((answer_for v ws room).code ≡ 8) ↔ (((n : ℕ) × (v ≡ Ok n)) × (room < length ws))
+read_ladder (Err k) ws room = bad_ladder k ws room
+read_ladder (Ok n) ws room = good_ladder n ws room (record { code = 0; place = 0; n = n; count = length ws }) (λ q. omega (arith, q)) (leb (length ws) room) refl
 
-sheet_ladder : (v : Verdict) (ws : List ℕ) (room : ℕ) → ((sheet_answer_for v ws room).code ≡ 8) ↔ (((n : ℕ) × (v ≡ Good n)) × (room < length ws))
-sheet_ladder (Bad k) ws room = bad_ladder k ws room
-sheet_ladder (Good n) ws room = good_ladder n ws room _ (five (good_sheet n (sorted ws))) (leb (length ws) room) refl
+sheet_ladder : (v : Verdict) (ws : List ℕ) (room : ℕ) → ((sheet_answer_for v ws room).code ≡ 8) ↔ (((n : ℕ) × (v ≡ Ok n)) × (room < length ws))
+sheet_ladder (Err k) ws room = bad_ladder k ws room
+sheet_ladder (Ok n) ws room = good_ladder n ws room _ (five (good_sheet n (sorted ws))) (leb (length ws) room) refl
   where
     five : (g : Bool) → (cond g (record { code = 0; place = 0; n = n; count = length ws }) (refusal 5 0)).code ≡ 8 → ⊥
     five true q = omega (arith, q)

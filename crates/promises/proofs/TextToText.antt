@@ -15,8 +15,8 @@ use Rattle.answers.specs.Answers.{refuse, done}
 use Rattle.headers.specs.Layouts.{recording}
 use Rattle.headers.specs.Accepted.{Accepted}
 use Rattle.headers.specs.Verdicts.{judge_of}
-use Rattle.headers.specs.declared.Verdict.{Verdict}
-use Rattle.headers.specs.declared.Verdict.TheVariants.{Good, Bad}
+use Rattle.headers.specs.Verdicts.{Verdict}
+use Rattle.std.specs.Prelude.{Ok, Err}
 use Rattle.headers.proofs.Accepting.{good_iff_text}
 use Rattle.headers.proofs.PlaceLaws.{bad_iff_place}
 use Rattle.reading.specs.Rows.{text_words}
@@ -126,8 +126,8 @@ module _ (t : List ℕ) where
           (learn_run (answer_for v (text_words t) 1024).n 1024 1024 (take (answer_for v (text_words t) 1024).count (list_for v (text_words t) 1024)))
           (refuse b 0 (answer_for v (text_words t) 1024).place))
       go true v e f = too_long (ltb-true 24576 (length t) e)
-      go false (Bad k) e f = faulty k (ltb-false 24576 (length t) e) ((bad_iff_place recording t k).0 f)
-      go false (Good n) e f = fit n (ltb-false 24576 (length t) e) ((good_iff_text recording t n).0 f) (leb (length (text_words t)) 1024) refl
+      go false (Err k) e f = faulty k (ltb-false 24576 (length t) e) ((bad_iff_place recording t k).0 f)
+      go false (Ok n) e f = fit n (ltb-false 24576 (length t) e) ((good_iff_text recording t n).0 f) (leb (length (text_words t)) 1024) refl
 
   -- a refusal before learning has a code
   entry_writable : (n room c p : ℕ) (u : Run) → Writable n room u → Writable n room (run_if c u p)

@@ -13,8 +13,8 @@ use Rattle.headers.specs.Layouts.{recording, requiring}
 use Rattle.headers.specs.Verdicts.{judge_of}
 use Rattle.headers.specs.Places.{Place, Untyped}
 use Rattle.headers.specs.declared.Layout.{Layout}
-use Rattle.headers.specs.declared.Verdict.{Verdict}
-use Rattle.headers.specs.declared.Verdict.TheVariants.{Good, Bad}
+use Rattle.headers.specs.Verdicts.{Verdict}
+use Rattle.std.specs.Prelude.{Ok, Err}
 use Rattle.headers.proofs.PlaceLaws.{bad_iff_place}
 use Rattle.headers.proofs.TypeLines.{untyped_faulty, same_or_untyped}
 use Rattle.reading.specs.Rows.{words_in, text_words}
@@ -23,18 +23,18 @@ use Rattle.reading.specs.declared.ReadAnswer.{ReadAnswer}
 
 -- what `read_laid` answers in each of its three cases, over what its calls answer
 module _ (lay : Layout) (t before after : List ℕ) (r : ReadAnswer) where
-  pub read_bad : (p : ℕ) → Bad p ≡ judge_of lay t → r ≡ refusal 11 p → after ≡ replicate (length before) 0 → ReadsLaid lay t before after r
+  pub read_bad : (p : ℕ) → Err p ≡ judge_of lay t → r ≡ refusal 11 p → after ≡ replicate (length before) 0 → ReadsLaid lay t before after r
   unfolding laid_answer laid_list
   read_bad p h a e = record { answer = rw (← h) a; list = rw (← h) e }
 
-  pub read_full : (n : ℕ) → Good n ≡ judge_of lay t → length before < length (words_in lay.kind t) → r ≡ refusal 8 0
+  pub read_full : (n : ℕ) → Ok n ≡ judge_of lay t → length before < length (words_in lay.kind t) → r ≡ refusal 8 0
       → after ≡ replicate (length before) 0 → ReadsLaid lay t before after r
   unfolding laid_answer laid_list
   read_full n h k a e =
       let f = lt-leb (length (words_in lay.kind t)) (length before) k in
       record { answer = rw (← h, f) a; list = rw (← h, f) e }
 
-  pub read_done : (n k : ℕ) (d : List ℕ) → Good n ≡ judge_of lay t → k ≡ length (words_in lay.kind t) → k ≤ length before → length d ≡ length before
+  pub read_done : (n k : ℕ) (d : List ℕ) → Ok n ≡ judge_of lay t → k ≡ length (words_in lay.kind t) → k ≤ length before → length d ≡ length before
       → take k d ≡ words_in lay.kind t → r ≡ record { code = 0; place = 0; n = n; count = k } → after ≡ cleared_from k d
       → ReadsLaid lay t before after r
   unfolding laid_answer laid_list cleared_from filled
@@ -47,15 +47,15 @@ pub read_unique : {t before x y : List ℕ} {r s : ReadAnswer} → Reads t befor
 read_unique a b = (a.answer ∙ sym b.answer, a.list ∙ sym b.list)
 
 -- an answer that is 11 with its place where a text is bad, and no 11 where it is good, is 11 exactly at the place of a fault as 01 defines it
-pub eleven_iff_place : (lay : Layout) (t : List ℕ) (f : Verdict → ReadAnswer) → ((p : ℕ) → f (Bad p) ≡ refusal 11 p) → ((n : ℕ) → (f (Good n)).code ≡ 11 → ⊥)
+pub eleven_iff_place : (lay : Layout) (t : List ℕ) (f : Verdict → ReadAnswer) → ((p : ℕ) → f (Err p) ≡ refusal 11 p) → ((n : ℕ) → (f (Ok n)).code ≡ 11 → ⊥)
     → (k : ℕ) → (((f (judge_of lay t)).code ≡ 11) × ((f (judge_of lay t)).place ≡ k)) ↔ Place lay t k
 eleven_iff_place lay t f bad good k = (λ a. (bad_iff_place lay t k).0 (bad_at (judge_of lay t) refl a.0 a.1), λ p. eleven ((bad_iff_place lay t k).1 p))
   where
-    bad_at : (v : Verdict) → judge_of lay t ≡ v → (f v).code ≡ 11 → (f v).place ≡ k → judge_of lay t ≡ Bad k
-    bad_at (Bad p) e c q = e ∙ ap Bad (sym (ap (λ (x : ReadAnswer). x.place) (bad p)) ∙ q)
-    bad_at (Good n) e c q = absurd (good n c)
+    bad_at : (v : Verdict) → judge_of lay t ≡ v → (f v).code ≡ 11 → (f v).place ≡ k → judge_of lay t ≡ Err k
+    bad_at (Err p) e c q = e ∙ ap Err (sym (ap (λ (x : ReadAnswer). x.place) (bad p)) ∙ q)
+    bad_at (Ok n) e c q = absurd (good n c)
 
-    eleven : judge_of lay t ≡ Bad k → ((f (judge_of lay t)).code ≡ 11) × ((f (judge_of lay t)).place ≡ k)
+    eleven : judge_of lay t ≡ Err k → ((f (judge_of lay t)).code ≡ 11) × ((f (judge_of lay t)).place ≡ k)
     eleven e = let a = ap f e ∙ bad k in (ap (λ (x : ReadAnswer). x.code) a, ap (λ (x : ReadAnswer). x.place) a)
 
 -- `read` answers 11 with the place k exactly when k is the place of a fault

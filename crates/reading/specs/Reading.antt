@@ -1,11 +1,10 @@
 -- What reading a text answers, and what it leaves in the list.
-use Rattle.std.specs.Prelude.{ℕ, ◌+◌, ◌≡◌, List, cond, leb, length, replicate}
+use Rattle.std.specs.Prelude.{ℕ, ◌+◌, ◌≡◌, List, cond, leb, length, replicate, Ok, Err}
 use Rattle.table.specs.Surgery.{filled}
 use Rattle.headers.specs.Layouts.{recording}
 use Rattle.headers.specs.Verdicts.{judge_of}
 use Rattle.headers.specs.declared.Layout.{Layout}
-use Rattle.headers.specs.declared.Verdict.{Verdict}
-use Rattle.headers.specs.declared.Verdict.TheVariants.{Good, Bad}
+use Rattle.headers.specs.Verdicts.{Verdict}
 use Rattle.reading.specs.Rows.{words_in}
 use Rattle.reading.specs.declared.Filled.{Filled}
 use Rattle.reading.specs.declared.Filled.TheVariants.{To, Full}
@@ -21,13 +20,13 @@ refusal code place = record { code = code; place = place; n = 0; count = 0 }
 
 -- 11 with its place; else 8 if the words are more than the room; else done
 abbrev pub answer_for : Verdict → List ℕ → ℕ → ReadAnswer
-answer_for (Bad place) ws room = refusal 11 place
-answer_for (Good n) ws room = cond (leb (length ws) room) (record { code = 0; place = 0; n = n; count = length ws }) (refusal 8 0)
+answer_for (Err place) ws room = refusal 11 place
+answer_for (Ok n) ws room = cond (leb (length ws) room) (record { code = 0; place = 0; n = n; count = length ws }) (refusal 8 0)
 
 -- the words, and 0 in every word beyond them; all 0 where refused
 abbrev pub list_for : Verdict → List ℕ → ℕ → List ℕ
-list_for (Bad place) ws room = replicate room 0
-list_for (Good n) ws room = cond (leb (length ws) room) (filled room ws) (replicate room 0)
+list_for (Err place) ws room = replicate room 0
+list_for (Ok n) ws room = cond (leb (length ws) room) (filled room ws) (replicate room 0)
 
 -- the answer to a text of a layout, with room for so many words
 unfoldable pub laid_answer : Layout → List ℕ → ℕ → ReadAnswer

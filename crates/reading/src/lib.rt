@@ -7,7 +7,7 @@ ghost use Rattle.lines.specs.declared.Kind.TheVariants.{Recording, Sheet};
 ghost use Rattle.reading.specs.Rows.{matches_of, rule_of, row_words, line_words, words_in};
 ghost use Rattle.reading.specs.Reading.{filled_of, refusal, ReadsLaid, Reads};
 
-use headers::{Layout, Verdict};
+use headers::Layout;
 use lines::{Kind, Line, Masks, View};
 
 // Where the words written so far end, or that the list is full.
@@ -153,11 +153,11 @@ pub fn read_laid(lay: Layout, text: &[u8], list: &mut [u32]) -> ReadAnswer
     let kind = lay.kind;
     let v = judging::judge(lay, text);
     match v {
-        Verdict::Bad(p) => {
+        Err(p) => {
             table::clear(list);
             refused(11, p)
         }
-        Verdict::Good(n) => {
+        Ok(n) => {
             let f = fill(kind, text, list);
             match f {
                 Filled::To(count) => {

@@ -15,8 +15,8 @@ use Rattle.fields.specs.Texts.{lines_of}
 use Rattle.headers.specs.Layouts.{sheet}
 use Rattle.headers.specs.Verdicts.{judge_of}
 use Rattle.headers.specs.Places.{Place}
-use Rattle.headers.specs.declared.Verdict.{Verdict}
-use Rattle.headers.specs.declared.Verdict.TheVariants.{Good, Bad}
+use Rattle.headers.specs.Verdicts.{Verdict}
+use Rattle.std.specs.Prelude.{Ok, Err}
 use Rattle.headers.proofs.Accepting.{good_iff_text}
 use Rattle.headers.proofs.Sizes.{text_size}
 use Rattle.reading.specs.Rows.{sheet_words}
@@ -37,7 +37,7 @@ sheet_read_unique a b = (a.answer ∙ sym b.answer, a.words ∙ sym b.words)
 -- the text is a sheet's, for n relays, and the words of its rows fit
 pub record Fit (t : List ℕ) (room : ℕ) (mid : List ℕ) (r : ReadAnswer) : Type 0 where
   pub n : ℕ
-  pub accepted : judge_of sheet t ≡ Good n
+  pub accepted : judge_of sheet t ≡ Ok n
   pub fits : length (sheet_words t) ≤ room
   pub answer : r ≡ record { code = 0; place = 0; n = n; count = length (sheet_words t) }
   pub words : mid ≡ filled room (sheet_words t)
@@ -60,37 +60,37 @@ module _ (t before mid : List ℕ) (r : ReadAnswer) (h : ReadsLaid sheet t befor
   pub rows_fit : r.code ≡ 0 → Fit t room mid r
   rows_fit z = go (judge_of sheet t) refl
     where
-      good : (n : ℕ) → judge_of sheet t ≡ Good n → (b : Bool) → leb (length ws) room ≡ b → Fit t room mid r
+      good : (n : ℕ) → judge_of sheet t ≡ Ok n → (b : Bool) → leb (length ws) room ≡ b → Fit t room mid r
       good n e true f =
           record {
             n = n;
             accepted = e;
             fits = leb-true (length ws) room f;
-            answer = answer_by (Good n) e ∙ rw f refl;
-            words = list_by (Good n) e ∙ rw f refl;
+            answer = answer_by (Ok n) e ∙ rw f refl;
+            words = list_by (Ok n) e ∙ rw f refl;
           }
       good n e false f =
-          let q : r ≡ refusal 8 0 = answer_by (Good n) e ∙ rw f refl in
+          let q : r ≡ refusal 8 0 = answer_by (Ok n) e ∙ rw f refl in
           absurd (omega (arith, sym z ∙ ap (λ (x : ReadAnswer). x.code) q))
 
       go : (v : Verdict) → judge_of sheet t ≡ v → Fit t room mid r
-      go (Bad k) e = absurd (omega (arith, sym z ∙ ap (λ (x : ReadAnswer). x.code) (answer_by (Bad k) e)))
-      go (Good n) e = good n e (leb (length ws) room) refl
+      go (Err k) e = absurd (omega (arith, sym z ∙ ap (λ (x : ReadAnswer). x.code) (answer_by (Err k) e)))
+      go (Ok n) e = good n e (leb (length ws) room) refl
 
   -- refused with 11 or 8: so it stays
   pub rows_refused : (r.code ≡ 0 → ⊥) → ReadsSheet t before mid r
   unfolding sheet_answer sheet_list
   rows_refused z = go (judge_of sheet t) refl
     where
-      good : (n : ℕ) → judge_of sheet t ≡ Good n → (b : Bool) → leb (length ws) room ≡ b → ReadsSheet t before mid r
+      good : (n : ℕ) → judge_of sheet t ≡ Ok n → (b : Bool) → leb (length ws) room ≡ b → ReadsSheet t before mid r
       good n e true f =
-          let q : r ≡ record { code = 0; place = 0; n = n; count = length ws } = answer_by (Good n) e ∙ rw f refl in
+          let q : r ≡ record { code = 0; place = 0; n = n; count = length ws } = answer_by (Ok n) e ∙ rw f refl in
           absurd (z (ap (λ (x : ReadAnswer). x.code) q))
-      good n e false f = record { answer = answer_by (Good n) e ∙ rw (e, f) refl; words = list_by (Good n) e ∙ rw (e, f) refl }
+      good n e false f = record { answer = answer_by (Ok n) e ∙ rw (e, f) refl; words = list_by (Ok n) e ∙ rw (e, f) refl }
 
       go : (v : Verdict) → judge_of sheet t ≡ v → ReadsSheet t before mid r
-      go (Bad k) e = record { answer = answer_by (Bad k) e ∙ rw e refl; words = list_by (Bad k) e ∙ rw e refl }
-      go (Good n) e = good n e (leb (length ws) room) refl
+      go (Err k) e = record { answer = answer_by (Err k) e ∙ rw e refl; words = list_by (Err k) e ∙ rw e refl }
+      go (Ok n) e = good n e (leb (length ws) room) refl
 
 -- ---- the words in order
 

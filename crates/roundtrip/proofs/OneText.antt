@@ -9,7 +9,7 @@ use Rattle.panel.specs.Rules.{valid_rule}
 use Rattle.prime.specs.Sheets.{good_sheet}
 use Rattle.headers.specs.Layouts.{sheet}
 use Rattle.headers.specs.Verdicts.{judge_of}
-use Rattle.headers.specs.declared.Verdict.TheVariants.{Good}
+use Rattle.std.specs.Prelude.{Ok}
 use Rattle.naming.specs.Columns.{names_for}
 use Rattle.reading.specs.Rows.{sheet_words}
 use Rattle.writing.specs.SheetText.{sheet_text}
@@ -21,7 +21,7 @@ module _ (n m : ℕ) (p : panel_size n ≡ true) (q : panel_size m ≡ true) (a 
   -- what a text is read as tells what was written
   pub text_unique : all (valid_rule n) ws ≡ true → all (valid_rule m) us ≡ true → sheet_text n a ws ≡ sheet_text m b us → (n ≡ m) × (a ≡ b) × (ws ≡ us)
   text_unique h k e =
-      let good : Good n ≡ Good m = sym (sheet_good n p a f ws h) ∙ ap (judge_of sheet) e ∙ sheet_good m q b g us k in
+      let good : Ok n ≡ Ok m = sym (sheet_good n p a f ws h) ∙ ap (judge_of sheet) e ∙ sheet_good m q b g us k in
       let size : n ≡ m = cc in (
         size,
         sym (same_back n p ws h a f) ∙ ap₂ (λ (t : List ℕ) (i : ℕ). names_for t [] i) e size ∙ same_back m q us k b g,

@@ -13,8 +13,8 @@ use Rattle.prime.specs.Sheets.{good_sheet}
 use Rattle.prime.proofs.Least.{good_e}
 use Rattle.headers.specs.Layouts.{sheet}
 use Rattle.headers.specs.Verdicts.{judge_of}
-use Rattle.headers.specs.declared.Verdict.{Verdict}
-use Rattle.headers.specs.declared.Verdict.TheVariants.{Good, Bad}
+use Rattle.headers.specs.Verdicts.{Verdict}
+use Rattle.std.specs.Prelude.{Ok, Err}
 use Rattle.reading.specs.Rows.{sheet_words}
 use Rattle.reading.specs.Reading.{refusal}
 use Rattle.reading.specs.declared.ReadAnswer.{ReadAnswer}
@@ -25,7 +25,7 @@ use Rattle.roundtrip.specs.Trips.{Read}
 
 -- ---- a text that is accepted, and whose words are those of a good sheet in some order
 
-module _ (t : List ℕ) (n : ℕ) (a : judge_of sheet t ≡ Good n) (s : List ℕ) (g : good_sheet n s ≡ true) (e : Same (sheet_words t) s) where
+module _ (t : List ℕ) (n : ℕ) (a : judge_of sheet t ≡ Ok n) (s : List ℕ) (g : good_sheet n s ≡ true) (e : Same (sheet_words t) s) where
   words_sorted : sorted (sheet_words t) ≡ s
   words_sorted = sorted_same (sheet_words t) s e ∙ sorted_self s (good_e n s g).sorted
 
@@ -43,7 +43,7 @@ module _ (t : List ℕ) (n : ℕ) (a : judge_of sheet t ≡ Good n) (s : List �
 
 -- what was read: the text is accepted, and its words in order, a good sheet, stand at the start of the slice
 pub record Back (t : List ℕ) (n : ℕ) (words : List ℕ) (count : ℕ) : Type 0 where
-  pub accepted : judge_of sheet t ≡ Good n
+  pub accepted : judge_of sheet t ≡ Ok n
   pub good : good_sheet n (sorted (sheet_words t)) ≡ true
   pub many : count ≡ length (sheet_words t)
   pub fits : count ≤ length words
@@ -52,7 +52,7 @@ pub record Back (t : List ℕ) (n : ℕ) (words : List ℕ) (count : ℕ) : Type
 sorted_length : (ws : List ℕ) → length (sorted ws) ≡ length ws
 sorted_length ws = sym (same_length (sorted_ordered ws).same)
 
-back_is : (t : List ℕ) (n room : ℕ) → judge_of sheet t ≡ Good n → good_sheet n (sorted (sheet_words t)) ≡ true → Back t n (filled room (sorted (sheet_words t))) (length (sheet_words t))
+back_is : (t : List ℕ) (n room : ℕ) → judge_of sheet t ≡ Ok n → good_sheet n (sorted (sheet_words t)) ≡ true → Back t n (filled room (sorted (sheet_words t))) (length (sheet_words t))
 unfolding filled
 back_is t n room a g =
     let s = sorted (sheet_words t) in
@@ -69,7 +69,7 @@ back_of : (t before after : List ℕ) (r : ReadAnswer) → ReadsSheet t before a
 unfolding sheet_answer sheet_list
 back_of t before after r h z = go (judge_of sheet t) refl h.answer h.words
   where
-    inner : (n : ℕ) → judge_of sheet t ≡ Good n → (f g : Bool) → good_sheet n (sorted (sheet_words t)) ≡ g
+    inner : (n : ℕ) → judge_of sheet t ≡ Ok n → (f g : Bool) → good_sheet n (sorted (sheet_words t)) ≡ g
         → r ≡ cond f (cond g (record { code = 0; place = 0; n = n; count = length (sheet_words t) }) (refusal 5 0)) (refusal 8 0)
         → after ≡ cond f (cond g (filled (length before) (sorted (sheet_words t))) (replicate (length before) 0)) (replicate (length before) 0) → Back t r.n after r.count
     inner n a true true g x l = rw (x, l) (back_is t n (length before) a g)
@@ -77,8 +77,8 @@ back_of t before after r h z = go (judge_of sheet t) refl h.answer h.words
     inner n a false b g x l = absurd (omega (arith, z, ap (λ (y : ReadAnswer). y.code) x))
 
     go : (v : Verdict) → judge_of sheet t ≡ v → r ≡ sheet_answer_for v (sheet_words t) (length before) → after ≡ sheet_list_for v (sheet_words t) (length before) → Back t r.n after r.count
-    go (Bad place) e x l = absurd (omega (arith, z, ap (λ (y : ReadAnswer). y.code) x))
-    go (Good n) e x l = inner n e (leb (length (sheet_words t)) (length before)) (good_sheet n (sorted (sheet_words t))) refl x l
+    go (Err place) e x l = absurd (omega (arith, z, ap (λ (y : ReadAnswer). y.code) x))
+    go (Ok n) e x l = inner n e (leb (length (sheet_words t)) (length before)) (good_sheet n (sorted (sheet_words t))) refl x l
 
 pub read_back : (t : List ℕ) (n : ℕ) (words : List ℕ) (count : ℕ) → Read t n words count → Back t n words count
 read_back t n words count h = rw (h.size, h.counted) at (back_of t h.before words h.answer h.reads h.done)

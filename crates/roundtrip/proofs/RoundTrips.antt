@@ -12,8 +12,8 @@ use Rattle.panel.specs.Rules.{valid_rule}
 use Rattle.prime.specs.Sheets.{good_sheet}
 use Rattle.headers.specs.Layouts.{sheet}
 use Rattle.headers.specs.Verdicts.{judge_of}
-use Rattle.headers.specs.declared.Verdict.{Verdict}
-use Rattle.headers.specs.declared.Verdict.TheVariants.{Good, Bad}
+use Rattle.headers.specs.Verdicts.{Verdict}
+use Rattle.std.specs.Prelude.{Ok, Err}
 use Rattle.reading.specs.Rows.{rule_of, sheet_words}
 use Rattle.reading.specs.declared.ReadAnswer.{ReadAnswer}
 use Rattle.naming.specs.Naming.{name_of}
@@ -59,14 +59,14 @@ module _ (n : ℕ) (words : List ℕ) (count : ℕ) (panel maker t : List ℕ) (
   valid = good_valid n (take count words) is.good
 
   -- its text is accepted, for its panel
-  pub written_good : judge_of sheet t ≡ Good n
+  pub written_good : judge_of sheet t ≡ Ok n
   written_good = ap (judge_of sheet) is.text ∙ sheet_good n is.size (names_for panel maker n) (labels panel maker n) (take count words) valid
 
   written_words : sheet_words t ≡ take count words
   written_words = ap sheet_words is.text ∙ sheet_back n is.size (names_for panel maker n) (labels panel maker n) (take count words) valid
 
   -- a text with the same rows, in any order, is read as what was written
-  pub moved_read : (u : List ℕ) → judge_of sheet u ≡ Good n → RowsMoved t u → (before after : List ℕ) (r : ReadAnswer) → ReadsSheet u before after r → count ≤ length before
+  pub moved_read : (u : List ℕ) → judge_of sheet u ≡ Ok n → RowsMoved t u → (before after : List ℕ) (r : ReadAnswer) → ReadsSheet u before after r → count ≤ length before
       → ReadAs n words count (length before) after r
   moved_read u good same before after r reads room =
       let e : Same (sheet_words u) (take count words) = rw written_words at (same_sym (words_same t u same)) in
@@ -93,7 +93,7 @@ module _ (n : ℕ) (words : List ℕ) (count : ℕ) (panel maker t : List ℕ) (
   written_same = ap (λ (x : List ℕ). names_for x [] n) is.text ∙ same_back n is.size (take count words) valid (names_for panel maker n) (labels panel maker n)
 
   -- a text with the same rows, in any order, read and written with the same names is the text again, where there is room
-  pub moved_back : (u m : List ℕ) → judge_of sheet u ≡ Good n → RowsMoved t u → names_for u m n ≡ names_for panel maker n
+  pub moved_back : (u m : List ℕ) → judge_of sheet u ≡ Ok n → RowsMoved t u → names_for u m n ≡ names_for panel maker n
       → (before after : List ℕ) (r : ReadAnswer) → ReadsSheet u before after r → count ≤ length before
       → (out out' : List ℕ) (x : WriteAnswer) → Writes r.n after r.count u m out out' x → length t ≤ length out → WrittenAgain t out' x
   moved_back u m good same names before after r reads room out out' x writes fits =
@@ -126,12 +126,12 @@ module _ (t u : List ℕ) (same : RowsMoved t u) where
       (h.answer ∙ rw (v, l) (answers (judge_of sheet u)) ∙ sym k.answer, h.words ∙ rw (v, l) (lists (judge_of sheet u)) ∙ sym k.words)
     where
       answers : (x : Verdict) → sheet_answer_for x (sheet_words t) (length before') ≡ sheet_answer_for x (sheet_words u) (length before')
-      answers (Bad place) = refl
-      answers (Good n) = rw (one_count, one_sheet)
+      answers (Err place) = refl
+      answers (Ok n) = rw (one_count, one_sheet)
 
       lists : (x : Verdict) → sheet_list_for x (sheet_words t) (length before') ≡ sheet_list_for x (sheet_words u) (length before')
-      lists (Bad place) = refl
-      lists (Good n) = rw (one_count, one_sheet)
+      lists (Err place) = refl
+      lists (Ok n) = rw (one_count, one_sheet)
 
   -- what was read, written with the same names into the same bytes, is one text
   pub moved_text : (m : List ℕ) (n : ℕ) (words words' : List ℕ) (count count' : ℕ) → Read t n words count → Read u n words' count' → names_for t m n ≡ names_for u m n

@@ -21,7 +21,7 @@ use Rattle.headers.specs.Layouts.{sheet}
 use Rattle.headers.specs.Verdicts.{judge_of}
 use Rattle.headers.specs.Accepted.{times, rows_in, HeaderLine, RowLine, All, Accepted}
 use Rattle.headers.specs.declared.Header.TheVariants.{Names}
-use Rattle.headers.specs.declared.Verdict.TheVariants.{Good}
+use Rattle.std.specs.Prelude.{Ok}
 use Rattle.headers.proofs.Accepting.{good_iff_text}
 use Rattle.reading.specs.Rows.{rule_of, sheet_words}
 use Rattle.writing.specs.SheetText.{sheet_text}
@@ -109,7 +109,7 @@ module _ (n : ℕ) (p : panel_size n ≡ true) (ns : List (List ℕ)) (f : Label
   accepted_nameless none = top_nameless n (size_bounds n p).0 (size_bounds n p).1 ns f (length ws) none
 
   -- so it is accepted, for its panel
-  pub sheet_good : judge_of sheet (sheet_text n ns ws) ≡ Good n
+  pub sheet_good : judge_of sheet (sheet_text n ns ws) ≡ Ok n
   sheet_good = (good_iff_text sheet (sheet_text n ns ws) n).1 sheet_accepted
 
   -- its rows are the rows of the rules, in their order

@@ -2,12 +2,12 @@
 use Rattle.naming.proofs.SourceLaws.{either_first, either_second}
 use Rattle.naming.proofs.judge_either.Goals as goal
 
-pub returns-in-Good : goal.returns-in-Good
-returns-in-Good c =
+pub returns-in-Ok : goal.returns-in-Ok
+returns-in-Ok c =
     let text = c.args.text.now in
-    either_first text _ _ c.recording_layout.ensures c.judge-v.ensures _ c.in-Good.is
+    either_first text _ _ c.recording_layout.ensures c.judge-v.ensures _ c.in-Ok.is
 
-pub returns-in-Bad : goal.returns-in-Bad
-returns-in-Bad c =
+pub returns-in-Err : goal.returns-in-Err
+returns-in-Err c =
     let text = c.args.text.now in
-    either_second text _ _ c.recording_layout.ensures c.judge-v.ensures _ _ _ c.in-Bad.is c.sheet_layout.ensures c.judge.ensures
+    either_second text _ _ c.recording_layout.ensures c.judge-v.ensures _ _ _ c.in-Err.is c.sheet_layout.ensures c.judge.ensures

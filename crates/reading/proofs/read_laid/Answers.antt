@@ -1,7 +1,7 @@
 -- `reading::read_laid` meets its contract.
 use Prim.Native.Nat.{ℕ}
 use Rattle.headers.specs.Verdicts.{judge_of}
-use Rattle.headers.specs.declared.Verdict.TheVariants.{Good, Bad}
+use Rattle.std.specs.Prelude.{Ok, Err}
 use Rattle.reading.proofs.FillLaws.{filled_full_at, filled_to_at}
 use Rattle.reading.proofs.ReadLaws.{read_bad, read_full, read_done}
 use Rattle.reading.specs.Reading.{filled_of}
@@ -22,12 +22,12 @@ clear_from-requires c =
     let g = filled_to_at 0 (length (words_in kind t)) (length c.args.list.now) k fr in
     omega arith
 
-pub returns-in-Bad : goal.returns-in-Bad
-returns-in-Bad c =
+pub returns-in-Err : goal.returns-in-Err
+returns-in-Err c =
     let lay = c.args.lay in
     let kind = lay.kind in
     let t = c.args.text.now in
-    let j : Bad c.in-Bad.p ≡ judge_of lay t = sym c.in-Bad.is ∙ c.judge-v.ensures in
+    let j : Err c.in-Err.p ≡ judge_of lay t = sym c.in-Err.is ∙ c.judge-v.ensures in
     read_bad lay _ _ _ _ _ j c.refused.ensures c.clear.ensures
 
 pub returns-in-To : goal.returns-in-To
@@ -41,7 +41,7 @@ returns-in-To c =
     let fr : To k ≡ filled_of 0 (length (words_in kind t)) (length a.list.now) = sym c.in-To.is ∙ the-fill.ensures.room in
     let g = filled_to_at 0 (length (words_in kind t)) (length a.list.now) k fr in
     let q : k ≡ length (words_in kind t) = omega arith in
-    let j : Good c.in-Good.n ≡ judge_of lay t = sym c.in-Good.is ∙ c.judge-v.ensures in
+    let j : Ok c.in-Ok.n ≡ judge_of lay t = sym c.in-Ok.is ∙ c.judge-v.ensures in
     read_done lay t a.list.now _ _ _ k the-fill.new.list j q (omega arith) (omega arith) (rw q (the-fill.ensures.words (omega arith))) refl c.clear_from.ensures
 
 pub returns-in-Full : goal.returns-in-Full
@@ -53,6 +53,6 @@ returns-in-Full c =
     let t = a.text.now in
     let fr : Full ≡ filled_of 0 (length (words_in kind t)) (length a.list.now) = sym c.in-Full.is ∙ the-fill.ensures.room in
     let g = filled_full_at 0 (length (words_in kind t)) (length a.list.now) fr in
-    let j : Good c.in-Good.n ≡ judge_of lay t = sym c.in-Good.is ∙ c.judge-v.ensures in
+    let j : Ok c.in-Ok.n ≡ judge_of lay t = sym c.in-Ok.is ∙ c.judge-v.ensures in
     let n : length the-fill.new.list ≡ length a.list.now = omega arith in
     read_full lay t a.list.now _ _ _ j (omega arith) c.refused-in-Full.ensures (c.clear-in-Full.ensures ∙ ap (λ (k : ℕ). replicate k 0) n)
