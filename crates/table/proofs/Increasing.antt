@@ -7,12 +7,15 @@ use mathlib.Core.List.Memᴰ.{head as here}
 use mathlib.Core.List.Memᴰ.{tail as there}
 use mathlib.Core.List.{List, [], ◌∷◌, ◌++◌, Memᴰ as Mem}
 use Prim.Native.Nat.{ℕ, zero, suc, ◌≤◌, ◌<◌}
-use native.Mathlib.Nat.{lt-suc_self}
+use native.Mathlib.Nat.{lt-suc_self, le_refl, le_of_suc-le-suc, not-suc-le-zero}
+use lib.ListN.{length, get_or}
+use Rattle.std.specs.List.Sorted.{IsNonDecreasingBy}
+use Rattle.std.proofs.lemmas.List.Sorted.{IsNonDecreasingBy-from_default}
 use native.Mathlib.Omega.{arith}
 use lib.Dec.{ltb}
 use borrow.Author.Tests.{ltb-true, lt-ltb}
 use Rattle.table.specs.Lists.{all, cons_if, filter, each, increasing}
-use Rattle.table.proofs.Basics.{and_l, and_r, and_i, all_e, all_i, filter_e, each_e}
+use Rattle.table.proofs.Basics.{and_l, and_r, and_i, all_e, all_i, filter_e, each_e, at_in}
 
 pub first_below : (x : ℕ) (xs : List ℕ) → increasing (x ∷ xs) ≡ true → {y : ℕ} → Mem y xs → x < y
 first_below x xs e {y} m = ltb-true x y (all_e (ltb x) m (and_l (all (ltb x) xs) (increasing xs) e))
@@ -22,6 +25,17 @@ rest_increasing x xs e = and_r (all (ltb x) xs) (increasing xs) e
 
 pub cons_increasing : (x : ℕ) (xs : List ℕ) → ((y : ℕ) → Mem y xs → x < y) → increasing xs ≡ true → increasing (x ∷ xs) ≡ true
 cons_increasing x xs h e = and_i (all (ltb x) xs) (increasing xs) (all_i (ltb x) xs (λ y m. lt-ltb x y (h y m))) e
+
+-- what a binary search asks
+pub increasing_ordered : (s : List ℕ) → increasing s ≡ true → IsNonDecreasingBy (λ x. x) s
+increasing_ordered s h = IsNonDecreasingBy-from_default (λ x. x) s 0 (go s h)
+  where
+    go : (s : List ℕ) → increasing s ≡ true → (i j : ℕ) → i ≤ j → j < length s → get_or s i 0 ≤ get_or s j 0
+    go [] h i j k l = absurd (not-suc-le-zero l)
+    go (x ∷ xs) h zero zero k l = le_refl x
+    go (x ∷ xs) h zero (suc j) k l = let b = first_below x xs h (at_in xs j (le_of_suc-le-suc l)) in omega (arith, b)
+    go (x ∷ xs) h (suc i) zero k l = absurd (not-suc-le-zero k)
+    go (x ∷ xs) h (suc i) (suc j) k l = go xs (rest_increasing x xs h) i j (le_of_suc-le-suc k) (le_of_suc-le-suc l)
 
 pub filter_increasing : (f : ℕ → Bool) (s : List ℕ) → increasing s ≡ true → increasing (filter f s) ≡ true
 filter_increasing f [] e = refl

@@ -161,10 +161,6 @@ moved_front to at w xs ys l h =
     rw (a, m, d) (sym (append_assoc (take at xs) (take (to - (at + 1)) (drop (at + 1) xs) ++ (w ∷ drop to xs)) ys
     ∙ ap (λ (r : List ℕ). take at xs ++ r) (append_assoc (take (to - (at + 1)) (drop (at + 1) xs)) (w ∷ drop to xs) ys)))
 
-pub removed_is : (s e : List ℕ) (count at : ℕ) → e ≡ moved_at count at 0 s → e ≡ removed_at count at s
-unfolding removed_at
-removed_is s e count at q = q
-
 -- the place of the larger one is behind
 pub replace_above : (s : List ℕ) (count at to w : ℕ) → at < count → count ≤ length s → increasing (take count s) ≡ true → get_or s at 0 < w → to ≡ place_of w (take count s) → at < to
 replace_above s count at to w l h i b p =
