@@ -326,6 +326,12 @@ pub same_bits : (n a b : ℕ) → a < 2 ^ n → b < 2 ^ n → ((v : ℕ) → v <
 same_bits n a b la lb h =
     within_antisym a b (on_within n a b la (λ v l p. sym (h v l) ∙ p)) (on_within n b a lb (λ v l p. h v l ∙ p))
 
+-- `a & !b` of words of 32 bits
+pub and_less : (a b : ℕ) → a < 2 ^ 32 → b < 2 ^ 32 → bit_and a (4294967295 - b) ≡ a - bit_and a b
+and_less a b la lb =
+    same_bits 32 (bit_and a (4294967295 - b)) (a - bit_and a b) (omega (arith, and_le_l a (4294967295 - b))) (omega arith)
+    (λ v l. on_and v a (4294967295 - b) ∙ ap (λ (t : Bool). on v a && t) (on_complement 32 b v lb l) ∙ sym (on_less v a b))
+
 -- ---- the bits of a | b
 
 or_half : (a b : ℕ) → bit_or a b / 2 ≡ bit_or (a / 2) (b / 2)

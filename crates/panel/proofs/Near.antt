@@ -13,7 +13,7 @@ use Rattle.panel.specs.Masks.{on, bits_where}
 use Rattle.panel.specs.Rules.{head, must_on, must_off, valid_rule, covers, narrows, Rule}
 use Rattle.panel.specs.Contacts.{free, contact, candidate, beyond, lone, near, place_by, contact_place}
 use Rattle.table.proofs.Basics.{and_l, and_r, and_i, not_e, not_i, either, same_test, passes, false_test}
-use Rattle.panel.proofs.Masks.{bits_lt, bits_on, same_bits, on_complement, on_or, on_less, bit, bit_zero, bit_suc, on_and, on_bit, bit_on, off_zero, within_on, apart_on, on_within, within_eq, eq_within, within_antisym}
+use Rattle.panel.proofs.Masks.{bits_lt, bits_on, same_bits, on_complement, on_or, on_less, bit, bit_zero, bit_suc, on_and, on_bit, bit_on, off_zero, within_on, apart_on, on_within, within_eq, eq_within, within_antisym, and_less}
 use Rattle.panel.proofs.Codec.{low_on, middle_on}
 use Rattle.panel.proofs.Words.{rule_e, must_on_small, must_off_small, Covers, narrows_e, covers_e, narrows_word, word_narrows, narrows_covers}
 use Rattle.panel.proofs.Candidates.{add_keeps, add_new, add_from, added, free_must_on, free_must_off}
@@ -95,30 +95,16 @@ near_i p b r k =
     (and_i (eqb (head r) (head b)) (eqb (bit_and (r - bit_and r b) (r - bit_and r b - 1)) 0) (eq-eqb (head r) (head b) k.one_head) (eq-eqb (bit_and (r - bit_and r b) (r - bit_and r b - 1)) 0 l))
     ∙ ap (on p) d ∙ power_on p
 
--- ---- the code's ways through
-
-module _ (b r : ℕ) where
-  pub near_none : (d : ℕ) → d ≡ r - bit_and r b → d ≡ 0 → 0 ≡ near b r
-  unfolding near beyond
-  near_none d e z = go (eqb (head r) (head b) && lone (beyond b r))
-    where
-      go : (x : Bool) → 0 ≡ cond x (beyond b r) 0
-      go true = sym z ∙ e
-      go false = refl
-
-  pub near_more : (d : ℕ) → d ≡ r - bit_and r b → (bit_and d (d - 1) ≡ 0 → ⊥) → 0 ≡ near b r
-  unfolding near lone beyond
-  near_more d e f =
-      ap (λ (x : Bool). cond x (beyond b r) 0)
-      (sym (false_test (eqb (head r) (head b) && lone (beyond b r))
-      (λ q. f (ap (λ (x : ℕ). bit_and x (x - 1)) e ∙ eqb-true (bit_and (beyond b r) (beyond b r - 1)) 0 (and_r (eqb (head r) (head b)) (lone (beyond b r)) q)))))
-
-  pub near_one : (d : ℕ) → d ≡ r - bit_and r b → head r ≡ head b → bit_and d (d - 1) ≡ 0 → d ≡ near b r
-  unfolding near lone beyond
-  near_one d e h z =
-      e
-      ∙ ap (λ (x : Bool). cond x (beyond b r) 0)
-      (sym (and_i (eqb (head r) (head b)) (lone (beyond b r)) (eq-eqb (head r) (head b) h) (eq-eqb (bit_and (beyond b r) (beyond b r - 1)) 0 (ap (λ (x : ℕ). bit_and x (x - 1)) (sym e) ∙ z))))
+-- what the code tests, where the heads are known to agree; `d - 1` wraps at 0
+pub near_tests : (b r : ℕ) → b < 2 ^ 32 → r < 2 ^ 32 → head r ≡ head b
+    → near b r ≡ cond (eqb (bit_and (bit_and r (4294967295 - b)) ((bit_and r (4294967295 - b) + 4294967295) % 4294967296)) 0) (bit_and r (4294967295 - b)) 0
+unfolding near lone beyond
+near_tests b r lb lr h =
+    rw (eq-eqb (head r) (head b) h, and_less r b lr lb) (wraps (r - bit_and r b) (omega arith))
+  where
+    wraps : (d : ℕ) → d < 2 ^ 32 → cond (eqb (bit_and d (d - 1)) 0) d 0 ≡ cond (eqb (bit_and d ((d + 4294967295) % 4294967296)) 0) d 0
+    wraps zero l = refl
+    wraps (suc d) l = ap (λ (x : ℕ). cond (eqb (bit_and (suc d) x) 0) (suc d) 0) (omega arith)
 
 -- ---- the bits of a rule's word, and of its masks
 
@@ -274,10 +260,11 @@ free_room n w s p m k small rr es ep em ek =
     (omega (arith, es, pow_pos n), omega (arith, es, ek ∙ ap₂ bit_or ep em, l))
 
 -- the relays whose contact was seen, as the code finds them
-pub against_bits : (seen i p m : ℕ) → p ≡ must_on seen → m ≡ must_off seen → bit_or (bit_and m i) (p - bit_and p i) ≡ bits_where 10 (λ v. on (contact_place v i) seen)
+pub against_bits : (seen i p m : ℕ) → i < 2 ^ 32 → p ≡ must_on seen → m ≡ must_off seen → bit_or (bit_and m i) (bit_and p (4294967295 - i)) ≡ bits_where 10 (λ v. on (contact_place v i) seen)
 unfolding contact_place
-against_bits seen i p m ep em =
-    same_bits 10 (bit_or (bit_and m i) (p - bit_and p i)) (bits_where 10 (λ v. on (place_by (on v i) v) seen))
+against_bits seen i p m li ep em =
+    rw (and_less p i (omega (arith, ep, must_on_small seen)) li)
+    (same_bits 10 (bit_or (bit_and m i) (p - bit_and p i)) (bits_where 10 (λ v. on (place_by (on v i) v) seen))
     (or_lt 10 (bit_and m i) (p - bit_and p i) (omega (arith, and_le_l m i, em, must_off_small seen)) (omega (arith, ep, must_on_small seen)))
     (bits_lt 10 (λ v. on (place_by (on v i) v) seen))
     (λ v l.
@@ -285,7 +272,7 @@ against_bits seen i p m ep em =
     ∙ ap₂ (λ (x y : Bool). x || y) (on_and v m i ∙ ap (λ (x : Bool). x && on v i) (ap (on v) em ∙ must_off_bit v seen l))
     (on_less v p i ∙ ap (λ (x : Bool). x && not (on v i)) (ap (on v) ep ∙ must_on_bit v seen l))
     ∙ either_way (on v i) v
-    ∙ sym (bits_on 10 (λ u. on (place_by (on u i) u) seen) v l))
+    ∙ sym (bits_on 10 (λ u. on (place_by (on u i) u) seen) v l)))
   where
     either_way : (x : Bool) (v : ℕ) → ((on v seen && x) || (on (v + 10) seen && not x)) ≡ on (place_by x v) seen
     either_way true v = first (on v seen) (on (v + 10) seen)

@@ -1,4 +1,4 @@
--- `panel::power` meets its contract.
+-- A shift of 1 is a power of 2.
 use mathlib.Core.Path.{◌∙◌}
 use native.Mathlib.Nat.{one-mul, le_trans, le_of_eq}
 use lib.Dec.{lit<}
