@@ -7,6 +7,10 @@ ghost use Rattle.panel.specs.Rules.{rule_word, head, must_on, must_off, valid_ru
 ghost use Rattle.panel.specs.Transitions.{transition_word, state, next, observed, valid_transition, rests, spared};
 ghost use Rattle.panel.specs.Contacts.{free, candidate, near, contact_place};
 
+mod size;
+
+pub use size::PanelSize;
+
 // A word holds masks and states of 10 relays, one above the other.
 const FIELD: u32 = 1024;
 
@@ -98,14 +102,13 @@ pub fn narrows_rule(w: u32, r: u32) -> bool
 
 // The word is one of a rule of a panel with n relays.
 #[tactic(auto, using(crate::proofs::Judging::rule_tests))]
-pub fn is_rule(n: u32, w: u32) -> bool
-    requires { n ≤ 10 }
+pub fn is_rule(n: PanelSize, w: u32) -> bool
     ensures { result ≡ valid_rule n w }
 {
-    let states = power(n);
+    let states = n.states();
     let p = must_on(w);
     let m = must_off(w);
-    head_of(w) < n && p < states && m < states && p & m == 0
+    head_of(w) < n.relays() && p < states && m < states && p & m == 0
 }
 
 #[tactic(auto, unfolding(crate::specs::Transitions::transition_word))]
@@ -140,11 +143,10 @@ pub fn observed_in(t: u32) -> u32
 
 // The word is one of a transition of a panel with n relays.
 #[tactic(auto, unfolding(crate::specs::Transitions::valid_transition))]
-pub fn is_transition(n: u32, t: u32) -> bool
-    requires { n ≤ 10 }
+pub fn is_transition(n: PanelSize, t: u32) -> bool
     ensures { result ≡ valid_transition n t }
 {
-    let states = power(n);
+    let states = n.states();
     state_of(t) < states && next_of(t) < states
 }
 
@@ -196,11 +198,11 @@ pub fn near_rule(b: u32, r: u32) -> u32
 
 // The relays below n that are free in the body of w.
 #[tactic(auto, using(crate::proofs::Near::free_room))]
-pub fn free_relays(n: u32, w: u32) -> u32
-    requires { (n ≤ 10) × (valid_rule n w ≡ true) }
+pub fn free_relays(n: PanelSize, w: u32) -> u32
+    requires { valid_rule n w ≡ true }
     ensures { result ≡ bits_where n (λ v. free v w) }
 {
-    power(n) - 1 - (must_on(w) | must_off(w))
+    n.states() - 1 - (must_on(w) | must_off(w))
 }
 
 // The relays whose contact that disagrees with the state i is among the bits seen.
