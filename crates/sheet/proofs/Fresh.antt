@@ -1,7 +1,7 @@
 -- The fresh sheet, written rule by rule.
 use mathlib.Core.Path.{◌≡◌, refl, sym, ap, ap₂, ◌∙◌}
 use mathlib.Core.List.{List, [], ◌∷◌, ◌++◌, append_assoc}
-use Prim.Native.Nat.{ℕ, zero, suc, ◌+◌, ◌≤◌, ◌<◌}
+use Prim.Native.Nat.{ℕ, zero, suc, ◌+◌, ◌<◌}
 use native.Mathlib.Numerals.{add-one}
 use native.Mathlib.Omega.{arith}
 use lib.ListN.{length, drop, set, length-append}
@@ -18,14 +18,10 @@ pub fresh_start : (s : List ℕ) → s ≡ fresh_sheet 0 ++ drop 0 s
 unfolding fresh_sheet
 fresh_start s = refl
 
-pub fresh_more : (s s₀ : List ℕ) (h k w : ℕ) → k ≡ h → h < length s₀ → s ≡ fresh_sheet h ++ drop h s₀ → w ≡ rule_word h 0 0 → set s k w ≡ fresh_sheet (h + 1) ++ drop (h + 1) s₀
+pub fresh_more : (s s₀ : List ℕ) (h : ℕ) → h < length s₀ → s ≡ fresh_sheet h ++ drop h s₀ → set s h (rule_word h 0 0) ≡ fresh_sheet (h + 1) ++ drop (h + 1) s₀
 unfolding fresh_sheet
-fresh_more s s₀ h k w ek l e ew =
-    ap₂ (λ (x : List ℕ) (i : ℕ). set x i w) (e ∙ ap (λ (y : List ℕ). fresh_sheet h ++ y) (drop-cons s₀ h 0 l)) (ek ∙ sym (fresh_length h))
-    ∙ set-append_seam (fresh_sheet h) _ (drop (suc h) s₀) w
-    ∙ ap (λ (x : ℕ). fresh_sheet h ++ (x ∷ drop (suc h) s₀)) ew
+fresh_more s s₀ h l e =
+    ap₂ (λ (x : List ℕ) (i : ℕ). set x i (rule_word h 0 0)) (e ∙ ap (λ (y : List ℕ). fresh_sheet h ++ y) (drop-cons s₀ h 0 l)) (sym (fresh_length h))
+    ∙ set-append_seam (fresh_sheet h) _ (drop (suc h) s₀) (rule_word h 0 0)
     ∙ sym (append_assoc (fresh_sheet h) (rule_word h 0 0 ∷ []) (drop (suc h) s₀))
     ∙ ap (λ (x : ℕ). fresh_sheet x ++ drop x s₀) (sym (add-one h))
-
-pub fresh_end : (s s₀ : List ℕ) (h n : ℕ) → h ≤ n → n ≤ h → s ≡ fresh_sheet h ++ drop h s₀ → s ≡ fresh_sheet n ++ drop n s₀
-fresh_end s s₀ h n a b e = let q : h ≡ n = omega arith in e ∙ ap (λ (x : ℕ). fresh_sheet x ++ drop x s₀) q

@@ -11,6 +11,7 @@ use lib.ListN.{length, take, drop}
 use lib.Seq.{length-take-le}
 use lib.Dec.{eqb, ltb}
 use borrow.Author.Tests.{eqb-true, eqb-false, ltb-true, ltb-false}
+use Rattle.std.specs.Prelude.{MatchOption, None, Option, Some}
 use Rattle.table.specs.Lists.{cons_if, increasing, insert, insert_all, remove}
 use Rattle.table.specs.Surgery.{Holds}
 use Rattle.table.proofs.Basics.{false_test}
@@ -92,27 +93,14 @@ module _ (n mask b i v : ℕ) (tab : List ℕ) (len : ℕ) (cur : List ℕ) (hav
     same = h.same ∙ q.same;
   }
 
-pub plant_done : (n mask b i v : ℕ) (tab : List ℕ) (len : ℕ) (cur : List ℕ) (have : ℕ) → v ≤ n → n ≤ v
-    → Holds cur have len (insert_all (picked v mask b i) tab) → Holds cur have len (insert_all (picked n mask b i) tab)
-plant_done n mask b i v tab len cur have h k q = let e : v ≡ n = omega arith in subst (λ (z : ℕ). Holds cur have len (insert_all (picked z mask b i) tab)) e q
-
 -- ---- the first relay of a mask
 
-pub first_start : (mask v : ℕ) → v < 0 → on v mask ≡ false
-first_start mask v l = absurd (not-suc-le-zero l)
-
-pub first_more : (mask k : ℕ) (x : Bool) → ((v : ℕ) → v < k → on v mask ≡ false) → x ≡ on k mask → x ≡ false → (v : ℕ) → v < k + 1 → on v mask ≡ false
-first_more mask k x f e t v l = go (eq-or-lt_of_le {n = v} {m = k} (omega arith))
-  where
-    go : (v ≡ k) ⊎ (v < k) → on v mask ≡ false
-    go (inl q) = ap (λ (u : ℕ). on u mask) q ∙ sym e ∙ t
-    go (inr q) = f v q
-
-pub first_found : (n mask k : ℕ) (x : Bool) → k < n → ((v : ℕ) → v < k → on v mask ≡ false) → x ≡ on k mask → x ≡ true → FirstOn n mask k
-first_found n mask k x l f e t = record { inside = le_of_lt l; off_before = f; on_here = λ q. sym e ∙ t }
-
-pub first_none : (n mask v : ℕ) → n ≤ v → ((u : ℕ) → u < v → on u mask ≡ false) → FirstOn n mask n
-first_none n mask v l f = record { inside = le_refl n; off_before = λ u q. f u (omega (arith, q, l)); on_here = λ q. absurd (lt_irrefl n q) }
+pub first_found : (n mask : ℕ) (r : Option ℕ)
+    → MatchOption r ((v : ℕ) → 0 ≤ v → v < n → on v mask ≡ false)
+    (λ u. (0 ≤ u) × (u < n) × (on u mask ≡ true) × ((v : ℕ) → 0 ≤ v → v < u → on v mask ≡ false))
+    → MatchOption r (FirstOn n mask n) (λ u. (u < n) × FirstOn n mask u)
+first_found n mask None f = record { inside = le_refl n; off_before = λ v l. f v (omega arith) l; on_here = λ q. absurd (lt_irrefl n q) }
+first_found n mask (Some u) f = (f.1, record { inside = le_of_lt f.1; off_before = λ v l. f.3 v (omega arith) l; on_here = λ q. f.2 })
 
 picked_none : (v mask b i : ℕ) → ((u : ℕ) → u < v → on u mask ≡ false) → picked v mask b i ≡ []
 unfolding picked
@@ -152,12 +140,11 @@ module _ (n mask u b i : ℕ) (f : FirstOn n mask u) (l : u < n) where
 
 -- ---- one rule out, its candidates in
 
-pub barren_done : (n mask u b i : ℕ) (s z : List ℕ) (have : ℕ) → FirstOn n mask u → n ≤ u → Holds z (have - 1) (length s) (remove b (take have s))
+pub barren_done : (n mask b i : ℕ) (s z : List ℕ) (have : ℕ) → FirstOn n mask n → Holds z (have - 1) (length s) (remove b (take have s))
     → Holds z (have - 1) (length s) (planted n mask b i (take have s))
 unfolding planted
-barren_done n mask u b i s z have f l h =
-    subst (λ (ws : List ℕ). Holds z (have - 1) (length s) (insert_all ws (remove b (take have s))))
-    (sym (picked_none n mask b i (λ v k. f.off_before v (omega (arith, k, l))))) h
+barren_done n mask b i s z have f h =
+    subst (λ (ws : List ℕ). Holds z (have - 1) (length s) (insert_all ws (remove b (take have s)))) (sym (picked_none n mask b i f.off_before)) h
 
 module _ (n mask u b i c d : ℕ) (s z : List ℕ) (have : ℕ) (f : FirstOn n mask u) (l : u < n) (ec : c ≡ candidate b u i) (ed : d ≡ 2 ^ u)
     (h : Holds z have (length s) (insert c (remove b (take have s)))) where
@@ -197,12 +184,6 @@ module _ (n mask u b i c d : ℕ) (s z : List ℕ) (have : ℕ) (f : FirstOn n m
 pub stays_def : (all : Bool) (n t b : ℕ) (tab : List ℕ) → stays all n t b tab ≡ (spared t b || not (all || eqb (heir_mask n t b tab) 0))
 unfolding stays
 stays_def all n t b tab = refl
-
-pub goes_all : (all : Bool) (m : ℕ) → all ≡ true → true ≡ (all || eqb m 0)
-goes_all all m e = sym (ap (λ (a : Bool). a || eqb m 0) e)
-
-pub goes_barren : (all : Bool) (m : ℕ) → all ≡ false → eqb m 0 ≡ (all || eqb m 0)
-goes_barren all m e = sym (ap (λ (a : Bool). a || eqb m 0) e)
 
 module _ (all : Bool) (n t b : ℕ) (s : List ℕ) (have : ℕ) (x : Bool) (ex : x ≡ spared t b) where
   abbrev tab : List ℕ

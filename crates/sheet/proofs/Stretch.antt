@@ -1,13 +1,15 @@
 -- The stretch of one head tells the heirs as the whole table does; and how many relays a mask has.
 use mathlib.Core.Path.{◌≡◌, refl, sym, ap, ap₂, ◌∙◌, subst}
-use mathlib.Core.Bool.{Bool, true, false, not, ◌&&◌}
-use mathlib.Core.List.{List, [], Memᴰ as Mem}
+use mathlib.Core.Bool.{Bool, true, false, not, cond, ◌&&◌}
+use mathlib.Core.List.{List, [], ◌∷◌, map, map-id, Memᴰ as Mem}
 use Prim.Native.Nat.{ℕ, zero, suc, ◌+◌, ◌≤◌, ◌<◌}
 use native.Mathlib.Numerals.{add-one}
 use native.Mathlib.Omega.{arith}
 use lib.ListN.{length, length-append}
 use lib.Dec.{eqb}
 use borrow.Author.Tests.{eq-eqb}
+use Rattle.std.specs.List.{filter, range_with_len}
+use Rattle.std.proofs.lemmas.List.FromFn.{filter_of_map_range_with_len_more}
 use Rattle.table.specs.Lists.{any, all, cons_if, one_if}
 use Rattle.table.proofs.Basics.{and_r, same_test, any_e, any_i, all_i, one_length}
 use Rattle.panel.specs.Masks.{on}
@@ -58,16 +60,32 @@ module _ (n t b h : ℕ) (s part : List ℕ) (small : n ≤ 10) (rb : valid_rule
 
 -- ---- how many relays a mask has
 
-pub count_start : (mask : ℕ) → 0 ≡ on_count 0 mask
+pub count_le : (n mask : ℕ) → on_count n mask ≤ n
 unfolding on_count
-count_start mask = refl
+count_le zero mask = omega arith
+count_le (suc v) mask = omega (arith, count_le v mask, at_most_one (on v mask))
+  where
+    at_most_one : (b : Bool) → one_if b ≤ 1
+    at_most_one true = omega arith
+    at_most_one false = omega arith
 
-pub count_more : (v mask k x : ℕ) (b : Bool) → k ≡ on_count v mask → b ≡ on v mask → x ≡ one_if b → k + x ≡ on_count (v + 1) mask
+-- as the library counts them
+pub count_range : (n mask : ℕ) → length (filter (λ v. on v mask) (range_with_len 0 n)) ≡ on_count n mask
 unfolding on_count
-count_more v mask k x b ek eb ex = rw (add-one v) (ap₂ (λ (p q : ℕ). p + q) ek (ex ∙ ap one_if eb))
+count_range zero mask = refl
+count_range (suc v) mask =
+    ap passing (sym (map-id (range_with_len 0 (suc v))))
+    ∙ ap (λ (k : ℕ). passing (map (λ u. u) (range_with_len 0 k))) (sym (add-one v))
+    ∙ ap length (filter_of_map_range_with_len_more (λ u. on u mask) (λ u. u) 0 v v (omega arith))
+    ∙ length-append (filter (λ u. on u mask) (map (λ u. u) (range_with_len 0 v))) (cond (on v mask) (v ∷ []) [])
+    ∙ ap₂ (λ (p q : ℕ). p + q) (ap passing (map-id (range_with_len 0 v)) ∙ count_range v mask) (one (on v mask))
+  where
+    passing : List ℕ → ℕ
+    passing l = length (filter (λ u. on u mask) l)
 
-pub count_end : (n v mask k : ℕ) → v ≤ n → n ≤ v → k ≡ on_count v mask → k ≡ on_count n mask
-count_end n v mask k h l e = let q : v ≡ n = omega arith in e ∙ ap (λ (z : ℕ). on_count z mask) q
+    one : (b : Bool) → length (cond b (v ∷ []) []) ≡ one_if b
+    one true = refl
+    one false = refl
 
 pub picked_count : (n mask b i : ℕ) → length (picked n mask b i) ≡ on_count n mask
 unfolding picked on_count

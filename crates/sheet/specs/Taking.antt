@@ -1,6 +1,7 @@
 -- Take in place: what is counted before anything is written, and what a visit of one rule does to the table.
-use Rattle.std.specs.Prelude.{◌≡◌, Bool, true, false, not, ◌||◌, cond, List, ℕ, zero, suc, ◌+◌, ◌*◌, ◌≤◌, ◌<◌, eqb, length, take, drop, get_or}
+use Rattle.std.specs.Prelude.{◌≡◌, Bool, true, false, not, ◌||◌, cond, List, ℕ, zero, suc, ◌+◌, ◌*◌, ◌≤◌, ◌<◌, eqb, ⊤, length, take, drop, get_or}
 use Rattle.table.specs.Lists.{one_if, filter, increasing, insert_all, remove}
+use Rattle.table.specs.Surgery.{Holds}
 use Rattle.panel.specs.Masks.{on}
 use Rattle.panel.specs.Rules.{valid_rule}
 use Rattle.panel.specs.Transitions.{state, spared}
@@ -61,3 +62,14 @@ pub record Visitable (all : Bool) (n t : ℕ) (s : List ℕ) (have at : ℕ) : T
   pub rule : valid_rule n (get_or s at 0) ≡ true
   pub plants : stays all n t (get_or s at 0) (take have s) ≡ false
       → Plantable n (heir_mask n t (get_or s at 0) (take have s)) (get_or s at 0) (state t) (remove (get_or s at 0) (take have s)) (length s)
+
+-- the table after visits of the rules in front of the place k, from the last of them to the first
+unfoldable pub swept : Bool → ℕ → ℕ → ℕ → List ℕ → List ℕ
+swept all n t zero tab = tab
+swept all n t (suc k) tab = swept all n t k (visited all n t (get_or tab k 0) tab)
+
+-- each of these visits can be made, wherever a slice of that room has the table
+unfoldable pub Sweepable : Bool → ℕ → ℕ → ℕ → ℕ → List ℕ → Type 0
+Sweepable all n t room zero tab = ⊤
+Sweepable all n t room (suc k) tab =
+    ((s : List ℕ) (have : ℕ) → Holds s have room tab → Visitable all n t s have k) × Sweepable all n t room k (visited all n t (get_or tab k 0) tab)

@@ -1,7 +1,7 @@
 // The sheet in its lent slice: take counted before anything is written, and done in place.
 #![tactic(auto)]
 
-ghost use Rattle.std.specs.Prelude.{◌≡◌, true, false, ◌||◌, cond, eqb, ◌<◌, ◌≤◌, ◌+◌, length, take, drop, get_or, ◌++◌};
+ghost use Rattle.std.specs.Prelude.{◌≡◌, true, false, ◌||◌, cond, eqb, ◌<◌, ◌≤◌, ◌+◌, MatchOption, length, take, drop, get_or, ◌++◌};
 ghost use Rattle.table.specs.Lists.{increasing, insert_all, remove, insert};
 ghost use Rattle.table.specs.Surgery.{Holds};
 ghost use Rattle.panel.specs.Masks.{on};
@@ -10,7 +10,7 @@ ghost use Rattle.panel.specs.Transitions.{state, spared};
 ghost use Rattle.panel.specs.Contacts.{candidate};
 ghost use Rattle.prime.specs.Sheets.{good_sheet, fresh_sheet, take_sheet};
 ghost use Rattle.heirs.specs.Heirs.{heir_mask, picked};
-ghost use Rattle.sheet.specs.Taking.{tally_of, Tallying, on_count, FirstOn, planted, visited, Plantable, Visitable};
+ghost use Rattle.sheet.specs.Taking.{tally_of, Tallying, on_count, FirstOn, planted, visited, swept, Plantable, Visitable, Sweepable};
 
 // What a take strikes and adds.
 #[derive(Clone, Copy)]
@@ -33,13 +33,7 @@ fn count_on(n: u32, mask: u32) -> usize
     requires { n ≤ 10 }
     ensures { (result ≡ on_count n mask) × (result ≤ 10) }
 {
-    let mut k: usize = 0;
-    let mut v: u32 = 0;
-    while v < n {
-        k += table::one_if(panel::is_on(v, mask));
-        v += 1;
-    }
-    k
+    (0..n).filter(|&v| panel::is_on(v, mask)).count()
 }
 
 // What has been counted so far, with the rule b of the sheet.
@@ -67,10 +61,8 @@ pub fn count_changes(sheet: &[u32], n: u32, t: u32) -> Tally
         struck: 0,
         added: 0,
     };
-    let mut k: usize = 0;
-    while k < sheet.len() {
+    for k in 0..sheet.len() {
         so = tally_rule(so, sheet, n, t, k);
-        k += 1;
     }
     so
 }
@@ -94,26 +86,17 @@ fn plant(sheet: &mut [u32], count: usize, n: u32, i: u32, b: u32, mask: u32) -> 
     ensures { Holds sheet.new result (length sheet.old) (insert_all (picked n mask b i) (take count sheet.old)) }
 {
     let mut have = count;
-    let mut v: u32 = 0;
-    while v < n {
+    for v in 0..n {
         have = plant_one(sheet, have, v, i, b, mask);
-        v += 1;
     }
     have
 }
 
-// The first relay below n that is on in the mask; n where none is.
-fn first_on(n: u32, mask: u32) -> u32
-    ensures { FirstOn n mask result }
+// The first relay below n that is on in the mask.
+fn first_on(n: u32, mask: u32) -> Option<u32>
+    ensures { MatchOption result (FirstOn n mask n) (λ u. (u < n) × FirstOn n mask u) }
 {
-    let mut v: u32 = 0;
-    while v < n {
-        if panel::is_on(v, mask) {
-            return v;
-        }
-        v += 1;
-    }
-    n
+    (0..n).find(|&v| panel::is_on(v, mask))
 }
 
 // The rule at a place goes, and its candidates on the relays of the mask come. The first of them takes over its room, so that only the
@@ -123,11 +106,10 @@ fn replant(sheet: &mut [u32], have: usize, at: usize, n: u32, i: u32, mask: u32)
     ensures { Holds sheet.new result (length sheet.old) (planted n mask (get_or sheet.old at 0) i (take have sheet.old)) }
 {
     let b = sheet[at];
-    let u = first_on(n, mask);
-    if n <= u {
+    let Some(u) = first_on(n, mask) else {
         table::remove_at(sheet, have, at);
         return have - 1;
-    }
+    };
     let c = panel::candidate_on(b, u, i);
     table::replace_at(sheet, have, at, c);
     plant(sheet, have, n, i, b, mask - panel::power(u))
@@ -137,10 +119,7 @@ fn replant(sheet: &mut [u32], have: usize, at: usize, n: u32, i: u32, mask: u32)
 fn goes(all: bool, mask: u32) -> bool
     ensures { result ≡ (all || eqb mask 0) }
 {
-    if all {
-        return true;
-    }
-    mask == 0
+    all || mask == 0
 }
 
 // The rule at a place is visited: it stays, or gives way to its heirs.
@@ -159,25 +138,26 @@ fn visit(sheet: &mut [u32], have: usize, at: usize, n: u32, t: u32, all: bool) -
     replant(sheet, have, at, n, panel::state_of(t), mask)
 }
 
+// The rules of the table are visited, from the last to the first.
+fn sweep(sheet: &mut [u32], count: usize, n: u32, t: u32, all: bool) -> usize
+    requires { (count ≤ length sheet.old) × Sweepable all n t (length sheet.old) count (take count sheet.old) }
+    ensures { Holds sheet.new result (length sheet.old) (swept all n t count (take count sheet.old)) }
+{
+    let mut have = count;
+    for at in (0..count).rev() {
+        have = visit(sheet, have, at, n, t, all);
+    }
+    have
+}
+
 // The first count words are a good sheet, and there is room for the new one: the new sheet stands in its place. A sweep from the end
 // to the front retires the hit rules without an heir; a second one sets the heirs of the others in their places.
 pub fn take_rules(sheet: &mut [u32], count: usize, n: u32, t: u32) -> usize
     requires { (n ≤ 10) × (count ≤ length sheet.old) × (good_sheet n (take count sheet.old) ≡ true) × (length (take_sheet n (take count sheet.old) t) ≤ length sheet.old) }
     ensures { Holds sheet.new result (length sheet.old) (take_sheet n (take count sheet.old) t) }
 {
-    let mut have = count;
-    let mut i = count;
-    let mut phase: usize = 0;
-    while phase < 2 {
-        if i == 0 {
-            phase += 1;
-            i = have;
-        } else {
-            i -= 1;
-            have = visit(sheet, have, i, n, t, phase == 1);
-        }
-    }
-    have
+    let have = sweep(sheet, count, n, t, false);
+    sweep(sheet, have, n, t, true)
 }
 
 // The fresh sheet: n rules with empty bodies, over the front of the slice.
@@ -185,11 +165,7 @@ pub fn write_fresh(sheet: &mut [u32], n: u32)
     requires { (n ≤ 10) × (n ≤ length sheet.old) }
     ensures { sheet.new ≡ fresh_sheet n ++ drop n sheet.old }
 {
-    let mut h: u32 = 0;
-    let mut k: usize = 0;
-    while h < n {
-        sheet[k] = panel::rule_word(h, 0, 0);
-        h += 1;
-        k += 1;
+    for h in 0..n {
+        sheet[h as usize] = panel::rule_word(h, 0, 0);
     }
 }

@@ -1,16 +1,18 @@
 -- `sheet::count_on` meets its contract.
+use mathlib.Core.Path.{◌≡◌, ◌∙◌}
 use native.Mathlib.Omega.{arith}
-use Rattle.sheet.proofs.Stretch.{count_start, count_more, count_end}
+use lib.ListN.{length}
+use Rattle.std.specs.List.{filter, range_with_len}
+use Rattle.std.proofs.Common.{rules}
+use Rattle.std.proofs.lemmas.Iterator.{YieldsList-from_range}
+use Rattle.std.proofs.lemmas.Iterator.Consumers.{YieldsList-from_filter, count_from_yields_List}
+use Rattle.panel.specs.Masks.{on}
+use Rattle.sheet.proofs.Stretch.{count_range, count_le}
 use Rattle.sheet.proofs.count_on.Goals as goal
 
-pub loop-v-init : goal.loop-v-init
-loop-v-init c = (omega arith, omega arith, count_start _)
-
-pub overflow_add-k : goal.overflow_add-k
-overflow_add-k c = omega (arith, c.one_if-k.ensures.1)
-
-pub loop-v-preserved : goal.loop-v-preserved
-loop-v-preserved c = (omega arith, omega (arith, c.one_if-k.ensures.1), count_more _ _ _ _ _ c.loop-v.invariant.2 c.is_on.ensures c.one_if-k.ensures.0)
-
 pub returns : goal.returns
-returns c = (count_end _ _ _ _ c.loop-v.invariant.0 c.loop-v-test.false c.loop-v.invariant.2, omega arith)
+returns c =
+    let is : c.count.result ≡ length (filter (λ v. on v c.args.mask) (range_with_len 0 c.args.n)) =
+    count_from_yields_List _ _ c.count.ensures.ran
+    (YieldsList-from_filter _ _ (YieldsList-from_range 0 _ c.args.n c.filter.ensures.source (omega arith)) c.filter.ensures.closure (λ v b q k. search rules)) in
+    (is ∙ count_range _ _, omega (arith, is, count_range c.args.n c.args.mask, count_le c.args.n c.args.mask))

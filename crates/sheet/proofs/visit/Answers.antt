@@ -1,7 +1,6 @@
 -- `sheet::visit` meets its contract.
 use mathlib.Core.Path.{refl, sym, ◌∙◌}
 use lib.Seq.{length-take-le}
-use borrow.Author.Tests.{not-true, not-false}
 use Rattle.prime.proofs.Passes.{rule_small}
 use Rattle.sheet.proofs.Planting.{visit_spared, visit_later, visit_can, visit_done}
 use Rattle.sheet.proofs.visit.Goals as goal
@@ -18,12 +17,12 @@ heirs_of-mask-requires c =
 
 pub returns-then-not-goes : goal.returns-then-not-goes
 returns-then-not-goes c =
-    visit_later _ _ _ _ _ _ _ c.is_spared.ensures c.if-is_spared.false _ c.heirs_of-mask.ensures _ c.goes.ensures (not-true _ c.if-not-goes.true-raw) c.requires.fits
+    visit_later _ _ _ _ _ _ _ c.is_spared.ensures c.if-is_spared.false _ c.heirs_of-mask.ensures _ c.goes.ensures c.if-not-goes.true c.requires.fits
 
 pub replant-requires : goal.replant-requires
 replant-requires c =
-    (c.requires.size, rule_small _ _ c.requires.size _ refl c.requires.rule, c.requires.inside, c.requires.fits, c.requires.sorted, visit_can _ _ _ _ c.args.sheet.now c.args.have _ c.is_spared.ensures c.if-is_spared.false _ c.heirs_of-mask.ensures _ c.goes.ensures (not-false _ c.if-not-goes.false-raw) c.requires.plants _ c.state_of.ensures)
+    (c.requires.size, rule_small _ _ c.requires.size _ refl c.requires.rule, c.requires.inside, c.requires.fits, c.requires.sorted, visit_can _ _ _ _ c.args.sheet.now c.args.have _ c.is_spared.ensures c.if-is_spared.false _ c.heirs_of-mask.ensures _ c.goes.ensures c.if-not-goes.false c.requires.plants _ c.state_of.ensures)
 
 pub returns : goal.returns
 returns c =
-    visit_done _ _ _ _ c.args.sheet.now c.args.have _ c.is_spared.ensures c.if-is_spared.false _ c.heirs_of-mask.ensures _ c.goes.ensures (not-false _ c.if-not-goes.false-raw) _ c.state_of.ensures _ _ c.replant.ensures
+    visit_done _ _ _ _ c.args.sheet.now c.args.have _ c.is_spared.ensures c.if-is_spared.false _ c.heirs_of-mask.ensures _ c.goes.ensures c.if-not-goes.false _ c.state_of.ensures _ _ c.replant.ensures
