@@ -6,7 +6,7 @@ use mathlib.Core.List.Memᴰ
 use mathlib.Core.List.Memᴰ.{head as here}
 use mathlib.Core.List.Memᴰ.{tail as there}
 use mathlib.Core.List.{List, [], ◌∷◌, ◌++◌, Memᴰ as Mem}
-use Prim.Native.Nat.{ℕ, suc, ◌≤◌}
+use Prim.Native.Nat.{ℕ, suc, ◌+◌, ◌≤◌}
 use native.Mathlib.Omega.{arith}
 use lib.ListN.{length}
 use Rattle.table.specs.Lists.{increasing, has, filter}
@@ -120,8 +120,12 @@ pub book_longer : (ts : List ℕ) (w : ℕ) → (Mem w ts → ⊥) → length (b
 book_longer ts w f =
     ap length (sym (book_more w ts)) ∙ with_longer w (book_of ts) (false_test (told w (book_of ts)) (λ e. f (book_from ts w (told_e w (book_of ts) e))))
 
+-- a book with a list has no more words than both
+pub all_few : (ts b : List ℕ) → length (with_all ts b) ≤ length ts + length b
+all_few [] b = omega arith
+all_few (u ∷ ts) b = omega (arith, with_few u (with_all ts b), all_few ts b)
+
 -- a book has no more words than the list
 pub book_few : (ts : List ℕ) → length (book_of ts) ≤ length ts
 unfolding book_of
-book_few [] = omega arith
-book_few (u ∷ ts) = omega (arith, with_few u (with_all ts []), book_few ts)
+book_few ts = omega (arith, all_few ts [])

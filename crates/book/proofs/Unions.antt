@@ -5,9 +5,10 @@ use mathlib.Core.Bool.{true, false, not, false≢true}
 use mathlib.Core.List.Memᴰ.{head as here}
 use mathlib.Core.List.Memᴰ.{tail as there}
 use mathlib.Core.List.{List, [], ◌∷◌, Memᴰ as Mem}
-use Prim.Native.Nat.{ℕ, ◌<◌}
+use Prim.Native.Nat.{ℕ, ◌+◌, ◌≤◌, ◌<◌}
 use native.Mathlib.Nat.{le_of_lt}
 use native.Mathlib.Omega.{arith}
+use lib.ListN.{length}
 use lib.Arith.{lt_of_le-ne}
 use lib.Dec.{ltb}
 use borrow.Author.Tests.{lt-ltb}
@@ -20,7 +21,7 @@ use Rattle.book.specs.Books.{states_up, good_book, differ, against, clash, union
 use Rattle.book.specs.Clashes.{Clash}
 use Rattle.book.proofs.Books.{book_e, book_i, one_word, book_increasing}
 use Rattle.book.proofs.Telling.{differ_e, differ_i, differ_not, against_e, against_i}
-use Rattle.book.proofs.BookOf.{all_e, all_new, all_old, all_increasing}
+use Rattle.book.proofs.BookOf.{all_e, all_new, all_old, all_increasing, all_few}
 
 -- ---- the words of both
 
@@ -39,6 +40,10 @@ union_r b c t m = all_old b c t m
 pub union_increasing : (b c : List ℕ) → increasing c ≡ true → increasing (union b c) ≡ true
 unfolding union
 union_increasing b c up = all_increasing b c up
+
+pub union_few : (b c : List ℕ) → length (union b c) ≤ length b + length c
+unfolding union
+union_few b c = all_few b c
 
 -- ---- what a clash is
 

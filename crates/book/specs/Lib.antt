@@ -1,4 +1,3 @@
 pub mod Books
 pub mod Finding
 pub mod Clashes
-pub mod Merging
