@@ -1,12 +1,13 @@
 // Join: the walk over all rules of a panel, head by head, that keeps the smallest that both sheets permit.
 #![tactic(auto)]
 
-ghost use Rattle.std.specs.Prelude.{◌≡◌, true, ◌++◌, ◌+◌, ◌<◌, ◌≤◌, length, take, drop};
-ghost use Rattle.table.specs.Lists.{has, one_if};
-ghost use Rattle.panel.specs.Rules.{head, of_head};
+ghost use Rattle.std.specs.Prelude.{◌≡◌, true, not, ◌&&◌, ◌++◌, ◌*◌, ◌+◌, ◌<◌, ◌≤◌, length, take, drop};
+ghost use Rattle.std.specs.Iterator.{YieldsFirst, item_count};
+ghost use Rattle.table.specs.Lists.{between};
+ghost use Rattle.panel.specs.Rules.{head, rules, of_head};
 ghost use Rattle.prime.specs.Sheets.{sheet_where, join_sheet, good_sheet};
-ghost use Rattle.spans.specs.Parts.{over, put_if, Laid};
-ghost use Rattle.spans.specs.Fewer.{without, smaller};
+ghost use Rattle.spans.specs.Parts.{over, Laid};
+ghost use Rattle.spans.specs.Fewer.{without, smaller, fewer};
 ghost use Rattle.spans.specs.Steps.{Spot, Next};
 ghost use Rattle.spans.specs.Touching.{touches, both_touch};
 
@@ -44,16 +45,46 @@ fn next_word(n: u32, w: u32) -> u32
     (panel::head_of(w) + 1) * 1048576
 }
 
-// Writes w at the place if it is kept, and gives the next place.
-fn put_if(keep: bool, at: usize, w: u32, out: &mut [u32]) -> usize
-    requires { keep ≡ true → at < length out.old }
-    ensures { (result ≡ at + one_if keep) × (out.new ≡ put_if keep at w out.old) }
-{
-    if keep {
-        out[at] = w;
-        return at + 1;
+// The rules of a panel with n relays from the word `at` on and below `end`, in the order of their words.
+#[derive(Drop)]
+struct Rules {
+    n: u32,
+    at: u32,
+    end: u32,
+    ghost small: { n ≤ 10 },
+    ghost stands: { Spot n at },
+    ghost inside: { end ≤ n * 1048576 },
+}
+
+impl Rules {
+    // The rules of the head h.
+    fn of_head(n: u32, h: u32) -> Rules
+        requires { (n ≤ 10) × (h < n) }
+        ensures { between result.at result.end (rules result.n) ≡ of_head h (rules n) }
+    {
+        Rules {
+            n,
+            at: h * 1048576,
+            end: (h + 1) * 1048576,
+        }
     }
-    at
+}
+
+impl Iterator for Rules {
+    type Item = u32;
+
+    ghost next_gives = { YieldsFirst (λ s. between s.at s.end (rules s.n)) };
+
+    ghost remaining = { item_count (λ s. between s.at s.end (rules s.n)) };
+
+    fn next(&mut self) -> Option<u32> {
+        let w = self.at;
+        if self.end <= w {
+            return None;
+        }
+        self.at = next_word(self.n, w);
+        Some(w)
+    }
 }
 
 // ---- both sheets permit, inside one head
@@ -61,103 +92,63 @@ fn put_if(keep: bool, at: usize, w: u32, out: &mut [u32]) -> usize
 fn touches_word(s: &[u32], w: u32) -> bool
     ensures { result ≡ touches s.now w }
 {
-    let mut k: usize = 0;
-    while k < s.len() {
-        if s[k] & w == s[k] {
-            return true;
-        }
-        k += 1;
-    }
-    false
+    s.iter().any(|&r| r & w == r)
 }
 
+#[tactic(auto, unfolding(spans::specs::Touching::both_touch))]
 fn both_touch(a: &[u32], b: &[u32], w: u32) -> bool
     ensures { result ≡ both_touch a.now b.now w }
 {
-    if touches_word(a, w) {
-        touches_word(b, w)
-    } else {
-        false
-    }
+    touches_word(a, w) && touches_word(b, w)
 }
 
 // Both touch x, which is another word than w.
+#[tactic(auto, unfolding(spans::specs::Fewer::smaller))]
 fn is_smaller(a: &[u32], b: &[u32], w: u32, x: u32) -> bool
     ensures { result ≡ smaller (both_touch a.now b.now) w x }
 {
-    if x == w {
-        return false;
-    }
-    both_touch(a, b, x)
+    x != w && both_touch(a, b, x)
 }
 
 // The walk keeps w: both touch it, and with any one contact fewer they no longer do.
 fn is_kept(n: u32, a: &[u32], b: &[u32], w: u32) -> bool
-    requires { (n ≤ 10) × Spot n w × (head w < n) }
-    ensures { result ≡ has w (sheet_where n (both_touch a.now b.now)) }
+    requires { n ≤ 10 }
+    ensures { result ≡ (both_touch a.now b.now w && not (fewer n (both_touch a.now b.now) w)) }
 {
-    if !both_touch(a, b, w) {
-        return false;
-    }
-    let mut v: u32 = 0;
-    while v < n {
-        if is_smaller(a, b, w, drop_contact(w, v)) {
-            return false;
-        }
-        v += 1;
-    }
-    true
+    both_touch(a, b, w) && !(0..n).any(|v| is_smaller(a, b, w, drop_contact(w, v)))
 }
 
 // How many words of the head h are kept. A head that one side lacks has none.
+#[tactic(auto, using(spans::proofs::Joining::head_none_left, spans::proofs::Joining::head_none_right))]
 fn count_head(n: u32, h: u32, a: &[u32], b: &[u32]) -> usize
     requires { (n ≤ 10) × (h < n) }
-    ensures { (result ≡ length (of_head h (sheet_where n (both_touch a.now b.now)))) × (result ≤ 1048576) }
+    ensures count { result ≡ length (of_head h (sheet_where n (both_touch a.now b.now))) }
+    ensures few { result ≤ 1048576 }
 {
-    if a.len() == 0 {
+    if a.is_empty() || b.is_empty() {
         return 0;
     }
-    if b.len() == 0 {
-        return 0;
-    }
-    let end = (h + 1) * 1048576;
-    let mut w = h * 1048576;
-    let mut k: usize = 0;
-    while w < end {
-        k += table::one_if(is_kept(n, a, b, w));
-        w = next_word(n, w);
-    }
-    k
+    Rules::of_head(n, h)
+        .filter(|&w| is_kept(n, a, b, w))
+        .count()
 }
 
 // Writes the words of the head h that are kept over the front of out, and gives their number.
+#[tactic(auto, using(crate::proofs::Keeping::over_none, spans::proofs::Joining::head_none_left, spans::proofs::Joining::head_none_right))]
 fn write_head(n: u32, h: u32, a: &[u32], b: &[u32], out: &mut [u32]) -> usize
     requires { (n ≤ 10) × (h < n) × (length (of_head h (sheet_where n (both_touch a.now b.now))) ≤ length out.old) }
-    ensures { (result ≡ length (of_head h (sheet_where n (both_touch a.now b.now)))) × (out.new ≡ over (of_head h (sheet_where n (both_touch a.now b.now))) out.old) }
+    ensures count { result ≡ length (of_head h (sheet_where n (both_touch a.now b.now))) }
+    ensures written { out.new ≡ over (of_head h (sheet_where n (both_touch a.now b.now))) out.old }
 {
-    if a.len() == 0 {
+    if a.is_empty() || b.is_empty() {
         return 0;
     }
-    if b.len() == 0 {
-        return 0;
-    }
-    let end = (h + 1) * 1048576;
-    let mut w = h * 1048576;
-    let mut at: usize = 0;
-    while w < end {
-        let next = next_word(n, w);
-        at = put_if(is_kept(n, a, b, w), at, w, out);
-        w = next;
+    let mut at = 0;
+    for w in Rules::of_head(n, h).filter(|&w| is_kept(n, a, b, w)) {
+        out[at] = w;
+        at += 1;
     }
     at
-}
-
-// The same from `at` on.
-fn write_head_at(n: u32, h: u32, a: &[u32], b: &[u32], out: &mut [u32], at: usize) -> usize
-    requires { (n ≤ 10) × (h < n) × (at + length (of_head h (sheet_where n (both_touch a.now b.now))) ≤ length out.old) }
-    ensures { (result ≡ length (of_head h (sheet_where n (both_touch a.now b.now)))) × (out.new ≡ take at out.old ++ over (of_head h (sheet_where n (both_touch a.now b.now))) (drop at out.old)) }
-{
-    write_head(n, h, a, b, &mut out[at..])
 }
 
 // ---- join: of both sheets only the stretch of the head is looked at
@@ -167,13 +158,11 @@ pub fn count_join(n: u32, a: &[u32], b: &[u32]) -> usize
     requires { (n ≤ 10) × (good_sheet n a.now ≡ true) × (good_sheet n b.now ≡ true) }
     ensures { result ≡ length (join_sheet n a.now b.now) }
 {
-    let mut h = 0;
-    let mut k = 0;
-    while h < n {
-        k += count_head(n, h, prime::stretch(a, h), prime::stretch(b, h));
-        h += 1;
+    let mut count = 0;
+    for h in 0..n {
+        count += count_head(n, h, prime::stretch(a, h), prime::stretch(b, h));
     }
-    k
+    count
 }
 
 // Writes the join of two good sheets over the front of out, and gives the number of its rules.
@@ -181,11 +170,15 @@ pub fn write_join(n: u32, a: &[u32], b: &[u32], out: &mut [u32]) -> usize
     requires { (n ≤ 10) × (good_sheet n a.now ≡ true) × (good_sheet n b.now ≡ true) × (length (join_sheet n a.now b.now) ≤ length out.old) }
     ensures { Laid out.old out.new result (join_sheet n a.now b.now) }
 {
-    let mut h: u32 = 0;
-    let mut at: usize = 0;
-    while h < n {
-        at += write_head_at(n, h, prime::stretch(a, h), prime::stretch(b, h), out, at);
-        h += 1;
+    let mut at = 0;
+    for h in 0..n {
+        at += write_head(
+            n,
+            h,
+            prime::stretch(a, h),
+            prime::stretch(b, h),
+            &mut out[at..],
+        );
     }
     at
 }

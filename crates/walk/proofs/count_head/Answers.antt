@@ -1,33 +1,27 @@
--- `walk::count_head` meets its contract.
-use mathlib.Core.Path.{refl}
+use mathlib.Core.Path.{refl, ap, ◌∙◌}
+use mathlib.Core.Logic.{inl}
 use native.Mathlib.Omega.{arith}
-use Rattle.spans.proofs.Walking.{counting_start, counting_in, counting_few, counting_more, counting_done}
-use Rattle.spans.proofs.Joining.{head_none_left, head_none_right}
+use lib.ListN.{length}
+use Rattle.std.proofs.Common.{rules as usual}
+use borrow.Author.Tests.{tests}
+use Rattle.std.proofs.lemmas.Iterator.Consumers.{count_from_yields_List}
+use Rattle.panel.specs.Rules.{rules}
+use Rattle.panel.proofs.Words.{rules_increasing}
+use Rattle.spans.specs.Touching.{both_touch}
+use Rattle.prime.specs.Sheets.{sheet_where}
+use Rattle.prime.proofs.Least.{sheet_increasing}
+use Rattle.walk.proofs.Keeping.{left, head_few, head_road}
 use Rattle.walk.proofs.count_head.Goals as goal
 
-pub returns-then-a-eq0 : goal.returns-then-a-eq0
-returns-then-a-eq0 c = (head_none_left _ c.requires.0 _ _ _ c.if-a-eq0.true, omega arith)
+pub count-requires-clause-fits : goal.count-requires-clause-fits
+count-requires-clause-fits c =
+    inl (omega (arith, ap length (ap left c.filter.ensures.source ∙ c.of_head.ensures), head_few c.args.h (rules c.args.n) (rules_increasing c.args.n c.requires.0)))
 
-pub returns-then-b-eq0 : goal.returns-then-b-eq0
-returns-then-b-eq0 c = (head_none_right _ c.requires.0 _ _ _ c.if-b-eq0.true, omega arith)
+pub returns-clause-count : goal.returns-clause-count
+returns-clause-count c =
+    count_from_yields_List c.filter.result _ c.count.ensures.ran
+    (head_road _ c.requires.0 c.args.a.now c.args.b.now _ _ _ _ refl c.filter.ensures.source c.of_head.ensures c.filter.ensures.closure (λ x b f k. search (usual, tests)))
 
-pub loop-w-init : goal.loop-w-init
-loop-w-init c = counting_start _ c.requires.0 _ _ _ refl
-
-pub is_kept-requires : goal.is_kept-requires
-is_kept-requires c = (c.requires.0, c.loop-w.invariant.here, counting_in _ c.requires.0 _ _ c.requires.1 _ _ _ c.loop-w.invariant c.loop-w-test.true)
-
-pub overflow_add-k : goal.overflow_add-k
-overflow_add-k c = omega (arith, c.one_if-k.ensures.1, (counting_few _ c.requires.0 _ _ c.requires.1 _ _ _ c.loop-w.invariant c.loop-w-test.true).0)
-
-pub next_word-w-requires : goal.next_word-w-requires
-next_word-w-requires c = (c.requires.0, c.loop-w.invariant.here, (counting_few _ c.requires.0 _ _ c.requires.1 _ _ _ c.loop-w.invariant c.loop-w-test.true).1)
-
-pub loop-w-smaller : goal.loop-w-smaller
-loop-w-smaller c = omega (arith, c.next_word-w.ensures.above)
-
-pub loop-w-preserved : goal.loop-w-preserved
-loop-w-preserved c = counting_more _ c.requires.0 _ _ c.requires.1 _ _ _ c.loop-w.invariant c.loop-w-test.true _ c.is_kept.ensures _ c.one_if-k.ensures.0 _ c.next_word-w.ensures
-
-pub returns : goal.returns
-returns c = counting_done _ c.requires.0 _ _ _ _ _ c.loop-w.invariant (omega arith)
+pub returns-clause-few : goal.returns-clause-few
+returns-clause-few c =
+    omega (arith, returns-clause-count c, head_few c.args.h (sheet_where c.args.n (both_touch c.args.a.now c.args.b.now)) (sheet_increasing c.args.n c.requires.0 (both_touch c.args.a.now c.args.b.now)))

@@ -1,37 +1,48 @@
--- `walk::write_head` meets its contract.
-use mathlib.Core.Path.{refl}
+use mathlib.Core.Path.{refl, sym, ap, ap₂, ◌∙◌}
+use mathlib.Core.Bool.{true}
+use mathlib.Core.List.{List, [], ◌∷◌}
+use Prim.Native.Nat.{ℕ, ◌<◌}
 use native.Mathlib.Omega.{arith}
-use Rattle.spans.proofs.Overwriting.{nothing_over}
-use Rattle.spans.proofs.Walking.{writing_start, writing_in, writing_few, writing_room, writing_more, writing_done}
-use Rattle.spans.proofs.Joining.{head_none_left, head_none_right}
+use lib.ListN.{length, set, length-append}
+use Rattle.std.proofs.Common.{rules as usual}
+use borrow.Author.Tests.{tests}
+use Rattle.std.proofs.lemmas.List.{map-id}
+use Rattle.std.proofs.lemmas.Iterator.Consumers.{YieldsList-turn, YieldsList-end}
+use Rattle.spans.specs.Parts.{over}
+use Rattle.spans.proofs.Overwriting.{over_nil, over_put}
+use Rattle.walk.proofs.Keeping.{head_road}
 use Rattle.walk.proofs.write_head.Goals as goal
 
-pub returns-then-a-eq0 : goal.returns-then-a-eq0
-returns-then-a-eq0 c = nothing_over _ _ (head_none_left _ c.requires.0 _ _ _ c.if-a-eq0.true)
-
-pub returns-then-b-eq0 : goal.returns-then-b-eq0
-returns-then-b-eq0 c = nothing_over _ _ (head_none_right _ c.requires.0 _ _ _ c.if-b-eq0.true)
-
 pub loop-w-init : goal.loop-w-init
-loop-w-init c = writing_start _ c.requires.0 _ _ _ refl _
+loop-w-init c = record { written = over_nil _; place = refl }
 
-pub next_word-next-requires : goal.next_word-next-requires
-next_word-next-requires c = (c.requires.0, c.loop-w.invariant.here, writing_few _ c.requires.0 _ _ c.requires.1 _ c.requires.2 _ _ _ _ c.loop-w.invariant c.loop-w-test.true)
+-- a word that is kept has its place
+here : (c : goal.In-Some) → c.loop-w.at < length c.loop-w.out
+here c =
+    let turn = YieldsList-turn (head_road _ c.requires.0 c.args.a.now c.args.b.now c.args.h _ _ _ c.into_iter-w-iterator.ensures.into_iter_gives c.filter-w-items.ensures.source c.of_head.ensures c.filter-w-items.ensures.closure (λ x b f k. search (usual, tests)))
+    c.loop-w.yielded c.loop-w.w-iterator c.loop-w.yielded_by _ c.next.new.self _ c.in-Some.is c.next.ensures.steps in
+    omega (arith, turn.0)
 
-pub is_kept-requires : goal.is_kept-requires
-is_kept-requires c = (c.requires.0, c.loop-w.invariant.here, writing_in _ c.requires.0 _ _ c.requires.1 _ c.requires.2 _ _ _ _ c.loop-w.invariant c.loop-w-test.true)
+pub offset_bounds-out-at : goal.offset_bounds-out-at
+offset_bounds-out-at c = omega (arith, here c)
 
-pub put_if-at-requires : goal.put_if-at-requires
-put_if-at-requires c = writing_room _ c.requires.0 _ _ c.requires.1 _ c.requires.2 _ _ _ _ c.loop-w.invariant c.loop-w-test.true _ c.next_word-next.ensures _ c.is_kept.ensures
+pub bounds-out-at : goal.bounds-out-at
+bounds-out-at c = here c
 
-pub loop-w-smaller : goal.loop-w-smaller
-loop-w-smaller c = omega (arith, c.next_word-next.ensures.above)
+pub overflow_add-at : goal.overflow_add-at
+overflow_add-at c = omega (arith, here c)
 
 pub loop-w-preserved : goal.loop-w-preserved
-loop-w-preserved c = writing_more _ c.requires.0 _ _ c.requires.1 _ c.requires.2 _ _ _ _ c.loop-w.invariant c.loop-w-test.true _ c.next_word-next.ensures _ c.is_kept.ensures _ _ c.put_if-at.ensures.0 c.put_if-at.ensures.1
-
-pub shape_of-out : goal.shape_of-out
-shape_of-out c = c.loop-w.invariant.written.same
+loop-w-preserved c = let k = c.loop-w.invariant in record {
+  written = ap₂ (λ (s : List ℕ) (i : ℕ). set s i c.in-Some.w) k.written k.place ∙ over_put true c.loop-w.yielded c.args.out.now c.in-Some.w (λ _. omega (arith, here c));
+  place = omega (arith, length-append c.loop-w.yielded (c.in-Some.w ∷ []));
+}
 
 pub returns : goal.returns
-returns c = writing_done _ c.requires.0 _ _ _ _ _ _ _ c.loop-w.invariant (omega arith)
+returns c =
+    let all = YieldsList-end (head_road _ c.requires.0 c.args.a.now c.args.b.now c.args.h _ _ _ c.into_iter-w-iterator.ensures.into_iter_gives c.filter-w-items.ensures.source c.of_head.ensures c.filter-w-items.ensures.closure (λ x b f k. search (usual, tests)))
+    c.loop-w.yielded c.loop-w.w-iterator c.loop-w.yielded_by _ c.next.new.self c.in-None.is c.next.ensures.steps in
+    record {
+      count = c.loop-w.invariant.place ∙ all.1;
+      written = c.loop-w.invariant.written ∙ ap (λ (t : List ℕ). over t c.args.out.now) (sym (map-id c.loop-w.yielded) ∙ all.0);
+    }

@@ -1,11 +1,8 @@
--- What the loop of this function keeps.
-use Prim.Native.Nat.{◌-◌}
-use Rattle.spans.specs.Touching.{both_touch}
-use Rattle.spans.proofs.Walking.{Writing}
+-- The words met so far stand over the front of `out`, and `at` is their number.
+use mathlib.Core.Path.{◌≡◌}
+use lib.ListN.{length}
+use Rattle.spans.specs.Parts.{over}
 use Rattle.walk.proofs.write_head.Given as goal
 
 abbrev pub invariant-loop-w : goal.invariant-loop-w
-invariant-loop-w l = Writing l.n (both_touch l.a l.b) l.h l.end l.w l.initial.out l.out l.at
-
-abbrev pub decreases-loop-w : goal.decreases-loop-w
-decreases-loop-w l = l.end - l.w
+invariant-loop-w l = record { written : l.out ≡ over l.yielded l.initial.out; place : l.at ≡ length l.yielded }

@@ -1,15 +1,18 @@
--- `walk::write_join` meets its contract.
-use mathlib.Core.Path.{subst}
+use mathlib.Core.Path.{ap, subst}
+use Prim.Native.Nat.{◌-◌}
 use native.Mathlib.Omega.{arith}
+use lib.ListN.{length, drop, length-drop}
+use lib.Seq.{take_all}
 use Rattle.prime.proofs.Least.{good_e}
 use Rattle.spans.specs.Parts.{Laid}
+use Rattle.spans.proofs.Overwriting.{put_over}
 use Rattle.spans.proofs.Walking.{written_start}
 use Rattle.spans.proofs.Heads.{heads_room, heads_written, heads_laid}
 use Rattle.spans.proofs.Joining.{join_permit, join_room, join_head}
 use Rattle.walk.proofs.write_join.Goals as goal
 
 pub loop-h-init : goal.loop-h-init
-loop-h-init c = (omega arith, written_start _ c.requires.0 _ 0 _)
+loop-h-init c = written_start _ c.requires.0 _ 0 _
 
 pub stretch-requires : goal.stretch-requires
 stretch-requires c = (omega arith, (good_e _ _ c.requires.1).sorted)
@@ -17,20 +20,26 @@ stretch-requires c = (omega arith, (good_e _ _ c.requires.1).sorted)
 pub stretch-requires-in-loop-h : goal.stretch-requires-in-loop-h
 stretch-requires-in-loop-h c = (omega arith, (good_e _ _ c.requires.2).sorted)
 
-pub write_head_at-at-requires : goal.write_head_at-at-requires
-write_head_at-at-requires c = let found = join_head _ c.requires.0 _ _ _ _ _ c.stretch.ensures c.stretch-in-loop-h.ensures in
-    (c.requires.0, c.loop-h-test.true, omega (arith, heads_room _ c.requires.0 _ _ c.loop-h-test.true _ _ _ c.loop-h.invariant.1 (join_room _ _ _ _ c.requires.3) _ found))
+pub write_head-at-requires : goal.write_head-at-requires
+write_head-at-requires c =
+    let out = c.loop-h.out in
+    let at = c.loop-h.at in
+    let found = join_head _ c.requires.0 _ _ _ _ _ c.stretch.ensures c.stretch-in-loop-h.ensures in
+    let room = heads_room _ c.requires.0 _ _ c.loop-h-test.true _ _ _ c.loop-h.invariant (join_room _ _ _ _ c.requires.3) _ found in
+    (c.requires.0, c.loop-h-test.true, omega (arith, room, length-drop at out, ap length (take_all (length out - at) (drop at out) (omega (arith, length-drop at out)))))
 
 pub overflow_add-at : goal.overflow_add-at
-overflow_add-at c = let found = join_head _ c.requires.0 _ _ _ _ _ c.stretch.ensures c.stretch-in-loop-h.ensures in
-    omega (arith, c.write_head_at-at.ensures.0, heads_room _ c.requires.0 _ _ c.loop-h-test.true _ _ _ c.loop-h.invariant.1 (join_room _ _ _ _ c.requires.3) _ found)
+overflow_add-at c =
+    let found = join_head _ c.requires.0 _ _ _ _ _ c.stretch.ensures c.stretch-in-loop-h.ensures in
+    omega (arith, c.write_head-at.ensures.count, heads_room _ c.requires.0 _ _ c.loop-h-test.true _ _ _ c.loop-h.invariant (join_room _ _ _ _ c.requires.3) _ found)
 
 pub loop-h-preserved : goal.loop-h-preserved
-loop-h-preserved c = let found = join_head _ c.requires.0 _ _ _ _ _ c.stretch.ensures c.stretch-in-loop-h.ensures in
-    (omega arith, heads_written _ c.requires.0 _ _ c.loop-h-test.true _ _ _ c.loop-h.invariant.1 (join_room _ _ _ _ c.requires.3) _ found _ _ c.write_head_at-at.ensures.1 c.write_head_at-at.ensures.0)
-
-pub shape_of-out : goal.shape_of-out
-shape_of-out c = c.loop-h.invariant.1.same
+loop-h-preserved c =
+    let found = join_head _ c.requires.0 _ _ _ _ _ c.stretch.ensures c.stretch-in-loop-h.ensures in
+    heads_written _ c.requires.0 _ _ c.loop-h-test.true _ _ _ c.loop-h.invariant (join_room _ _ _ _ c.requires.3) _ found _ _
+    (put_over c.loop-h.at c.loop-h.out _ _ (omega arith) c.write_head-at.ensures.written) c.write_head-at.ensures.count
 
 pub returns : goal.returns
-returns c = subst (Laid _ _ _) (join_permit _ _ _) (heads_laid _ c.requires.0 _ _ _ _ _ c.loop-h.invariant.1 (join_room _ _ _ _ c.requires.3) c.loop-h.invariant.0 (omega arith))
+returns c =
+    subst (Laid _ _ _) (join_permit _ _ _)
+    (heads_laid _ c.requires.0 _ _ _ _ _ c.loop-h.invariant (join_room _ _ _ _ c.requires.3) (omega arith) (omega arith))
