@@ -11,9 +11,10 @@ ghost use Rattle.spans.specs.Fewer.{without, smaller, fewer};
 ghost use Rattle.spans.specs.Steps.{Spot, Next};
 ghost use Rattle.spans.specs.Touching.{touches, both_touch};
 
-// ---- for any test
+// ---- the rules of a panel, one by one
 
 // The rule w without its contact on the relay v.
+#[tactic(auto, using(spans::proofs::Fewer::drop_room_on, spans::proofs::Fewer::drop_room_off, spans::proofs::Fewer::drop_on, spans::proofs::Fewer::drop_off, spans::proofs::Fewer::drop_none))]
 fn drop_contact(w: u32, v: u32) -> u32
     requires { v < 10 }
     ensures { result ≡ without w v }
@@ -58,6 +59,7 @@ struct Rules {
 
 impl Rules {
     // The rules of the head h.
+    #[tactic(auto, unfolding(panel::specs::Rules::of_head))]
     fn of_head(n: u32, h: u32) -> Rules
         requires { (n ≤ 10) × (h < n) }
         ensures { between result.at result.end (rules result.n) ≡ of_head h (rules n) }
@@ -77,6 +79,7 @@ impl Iterator for Rules {
 
     ghost remaining = { item_count (λ s. between s.at s.end (rules s.n)) };
 
+    #[tactic(auto, using(crate::proofs::Keeping::rules_none, crate::proofs::Keeping::rules_more))]
     fn next(&mut self) -> Option<u32> {
         let w = self.at;
         if self.end <= w {
