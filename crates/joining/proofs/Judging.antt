@@ -1,29 +1,22 @@
--- The ways through join's judging: each law is one return of `pieces_code` or `join_code`, with the callees' results and what they say.
+-- What the code says: 0 exactly where the two pieces are good, do not contradict each other, and there is room.
 use mathlib.Core.Path.{◌≡◌, refl, sym, ap, ◌∙◌}
 use mathlib.Core.Bool.{Bool, true, false, not, ◌&&◌, ◌||◌, false≢true}
-use Prim.Native.Nat.{ℕ, ◌≤◌, ◌<◌}
+use Prim.Native.Nat.{ℕ, ◌≤◌}
 use native.Mathlib.Omega.{arith}
 use lib.Dec.{ltb}
 use lib.ListN.{length}
-use borrow.Author.Tests.{ltb-true, ltb-false, lt-ltb, le-ltb, not-false}
-use Rattle.table.proofs.Basics.{and_l, and_r, and_i}
+use borrow.Author.Tests.{ltb-true, ltb-false, le-ltb, not-false}
+use Rattle.table.proofs.Basics.{and_l, and_r}
 use Rattle.panel.specs.Masks.{panel_size}
-use Rattle.book.specs.Books.{good_book, clash}
+use mathlib.Core.List.{List}
+use Rattle.book.specs.Books.{good_book, clash, states_up}
+use Rattle.book.proofs.Books.{book_e}
 use Rattle.prime.specs.Sheets.{good_sheet}
 use Rattle.answers.specs.Answers.{refuse}
 use Rattle.joining.specs.Joining.{Piece, book_in, sheet_in, exceeds, joined_book, joined_sheet, pieces_code, join_code, GoodPiece, GoodPieces, Joinable}
 use Rattle.answers.proofs.Laws.{refuse_none}
 
 -- ---- counts and size
-
--- `book.len() < books || sheet.len() < sheets`
-pub exceeds_then : (a : Piece) → length a.book_words < a.book_count → ltb (length a.book_words) a.book_count ≡ exceeds a
-unfolding exceeds
-exceeds_then a l = rw (lt-ltb (length a.book_words) a.book_count l)
-
-pub exceeds_else : (a : Piece) → a.book_count ≤ length a.book_words → ltb (length a.sheet_words) a.sheet_count ≡ exceeds a
-unfolding exceeds
-exceeds_else a l = rw (le-ltb (length a.book_words) a.book_count l)
 
 or_false : (x y : Bool) → (x || y) ≡ false → (x ≡ false) × (y ≡ false)
 or_false true y e = absurd (false≢true (sym e))
@@ -39,36 +32,9 @@ pub size_in : (n : ℕ) (x : Bool) → x ≡ panel_size n → not x ≡ false �
 unfolding panel_size
 size_in n x ex e = omega (arith, ltb-true n 11 (and_r (ltb 0 n) (ltb n 11) (sym ex ∙ not-false x e)))
 
--- ---- the returns of `pieces_code`, in the order of the codes
-
-module _ (n : ℕ) (a b : Piece) (later : ℕ) (x₂ : Bool) (e₂ : x₂ ≡ panel_size n) where
-  pub code_2 : not x₂ ≡ true → 2 ≡ pieces_code n a b later
-  unfolding pieces_code
-  code_2 h = rw (← e₂, h)
-
-  module _ (h₂ : not x₂ ≡ false) (x₃ : Bool) (e₃ : x₃ ≡ exceeds a) where
-    pub code_3_left : x₃ ≡ true → 3 ≡ pieces_code n a b later
-    unfolding pieces_code
-    code_3_left h = rw (← e₂, h₂, ← e₃, h)
-
-    module _ (h₃ : x₃ ≡ false) (y₃ : Bool) (f₃ : y₃ ≡ exceeds b) where
-      pub code_3_right : y₃ ≡ true → 3 ≡ pieces_code n a b later
-      unfolding pieces_code
-      code_3_right h = rw (← e₂, h₂, ← e₃, h₃, ← f₃, h)
-
-      module _ (k₃ : y₃ ≡ false) (x₄ : Bool) (e₄ : x₄ ≡ (good_book n (book_in a) && good_book n (book_in b))) where
-        pub code_4 : not x₄ ≡ true → 4 ≡ pieces_code n a b later
-        unfolding pieces_code
-        code_4 h = rw (← e₂, h₂, ← e₃, h₃, ← f₃, k₃, ← e₄, h)
-
-        module _ (h₄ : not x₄ ≡ false) (x₅ : Bool) (e₅ : x₅ ≡ (good_sheet n (sheet_in a) && good_sheet n (sheet_in b))) where
-          pub code_5 : not x₅ ≡ true → 5 ≡ pieces_code n a b later
-          unfolding pieces_code
-          code_5 h = rw (← e₂, h₂, ← e₃, h₃, ← f₃, k₃, ← e₄, h₄, ← e₅, h)
-
-          pub pieces_pass : not x₅ ≡ false → later ≡ pieces_code n a b later
-          unfolding pieces_code
-          pieces_pass h = rw (← e₂, h₂, ← e₃, h₃, ← f₃, k₃, ← e₄, h₄, ← e₅, h)
+-- a good book's states increase
+pub rising : (n : ℕ) (b : List ℕ) → good_book n b ≡ true → states_up b ≡ true
+rising n b e = (book_e n b e).rising
 
 -- ---- what the code of the pieces says
 
@@ -107,10 +73,9 @@ piece_in n a g =
     ∙ le-ltb (length a.sheet_words) a.sheet_count g.sheet_in_slice
 
 pub pieces_i : (n : ℕ) (a b : Piece) (later : ℕ) → GoodPieces n a b → later ≡ pieces_code n a b later
+unfolding pieces_code
 pieces_i n a b later g =
-    pieces_pass n a b later (panel_size n) refl (ap not g.size) (exceeds a) refl (piece_in n a g.left) (exceeds b) refl (piece_in n b g.right)
-    (good_book n (book_in a) && good_book n (book_in b)) refl (ap not (and_i (good_book n (book_in a)) (good_book n (book_in b)) g.left.book_is_good g.right.book_is_good))
-    (good_sheet n (sheet_in a) && good_sheet n (sheet_in b)) refl (ap not (and_i (good_sheet n (sheet_in a)) (good_sheet n (sheet_in b)) g.left.sheet_is_good g.right.sheet_is_good))
+    rw (g.size, piece_in n a g.left, piece_in n b g.right, g.left.book_is_good, g.right.book_is_good, g.left.sheet_is_good, g.right.sheet_is_good)
 
 -- a refusal of the pieces does not ask what comes later
 pub pieces_refused : (n : ℕ) (a b : Piece) (later : ℕ) → (pieces_code n a b 0 ≡ 0 → ⊥) → pieces_code n a b 0 ≡ pieces_code n a b later
@@ -127,36 +92,6 @@ pieces_refused n a b later h =
     go false false true z h = refl
     go false false false true h = refl
     go false false false false h = absurd (h refl)
-
--- ---- the returns of `join_code`
-
-pub good_pieces : (n : ℕ) (a b : Piece) (code : ℕ) → code ≡ pieces_code n a b 0 → code ≡ 0 → GoodPieces n a b
-good_pieces n a b code ec h = (pieces_e n a b 0 (sym ec ∙ h)).0
-
-module _ (n : ℕ) (a b : Piece) (bookRoom sheetRoom : ℕ) (code : ℕ) (ec : code ≡ pieces_code n a b 0) where
-  pub code_pieces : (code ≡ 0 → ⊥) → code ≡ join_code n a b bookRoom sheetRoom
-  unfolding join_code
-  code_pieces h = ec ∙ pieces_refused n a b _ (λ e. h (ec ∙ e))
-
-  module _ (h : code ≡ 0) where
-    module _ (x₇ : Bool) (e₇ : x₇ ≡ clash (book_in a) (book_in b)) where
-      pub code_7 : x₇ ≡ true → 7 ≡ join_code n a b bookRoom sheetRoom
-      unfolding join_code
-      code_7 h₇ = rw (← pieces_i n a b _ (good_pieces n a b code ec h), ← e₇, h₇)
-
-      module _ (h₇ : x₇ ≡ false) (k : ℕ) (ek : k ≡ length (joined_book a b)) where
-        pub code_8 : bookRoom < k → 8 ≡ join_code n a b bookRoom sheetRoom
-        unfolding join_code
-        code_8 h₈ = rw (← pieces_i n a b _ (good_pieces n a b code ec h), ← e₇, h₇, ← ek, lt-ltb bookRoom k h₈)
-
-        module _ (h₈ : k ≤ bookRoom) (m : ℕ) (em : m ≡ length (joined_sheet n a b)) where
-          pub code_9 : sheetRoom < m → 9 ≡ join_code n a b bookRoom sheetRoom
-          unfolding join_code
-          code_9 h₉ = rw (← pieces_i n a b _ (good_pieces n a b code ec h), ← e₇, h₇, ← ek, le-ltb bookRoom k h₈, ← em, lt-ltb sheetRoom m h₉)
-
-          pub code_0 : m ≤ sheetRoom → 0 ≡ join_code n a b bookRoom sheetRoom
-          unfolding join_code
-          code_0 h₉ = rw (← pieces_i n a b _ (good_pieces n a b code ec h), ← e₇, h₇, ← ek, le-ltb bookRoom k h₈, ← em, le-ltb sheetRoom m h₉)
 
 -- ---- what the code says: 0 exactly where the pieces can be joined and there is room
 
@@ -175,6 +110,6 @@ joinable_e n a b bookRoom sheetRoom e =
     }
 
 pub joinable_i : (n : ℕ) (a b : Piece) (bookRoom sheetRoom : ℕ) → Joinable n a b bookRoom sheetRoom → join_code n a b bookRoom sheetRoom ≡ 0
+unfolding join_code
 joinable_i n a b bookRoom sheetRoom j =
-    sym (code_0 n a b bookRoom sheetRoom 0 (pieces_i n a b 0 j.pieces) refl (clash (book_in a) (book_in b)) refl j.agree
-    (length (joined_book a b)) refl j.book_fits (length (joined_sheet n a b)) refl j.sheet_fits)
+    rw (← pieces_i n a b _ j.pieces, j.agree, le-ltb bookRoom (length (joined_book a b)) j.book_fits, le-ltb sheetRoom (length (joined_sheet n a b)) j.sheet_fits)
