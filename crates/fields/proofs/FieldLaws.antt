@@ -13,6 +13,7 @@ use Rattle.fields.specs.Bytes.{mark_of, space_mark, run}
 use Rattle.fields.specs.Fields.{close, fields_from, fields_in, only_of, Spans}
 use Rattle.fields.specs.declared.Span.{Span}
 use Rattle.fields.specs.declared.Stretch.TheVariants.{Gap, Field}
+use Rattle.fields.proofs.TextLaws.{rest_is}
 use Rattle.fields.proofs.ByteLaws.{bare, field, after, run_le, field_at_lem, after_at, bare_at}
 
 -- a field that is read goes on to its end
@@ -93,6 +94,27 @@ module _ (s : List ℕ) (i : ℕ) (r : Span) (h : Spans s i r) where
 
   pub span_in : r.from ≤ r.to
   span_in = omega (arith, h.ends)
+
+-- the first field of a line, and the others: none if there is no byte between the two places
+module _ (s : List ℕ) (r : Span) (h : Spans s 0 r) where
+  field_bytes : r.from < length s → length (take (r.to - r.from) (drop r.from s)) ≡ run Field (drop r.from s)
+  field_bytes l = simp (length-take, length-drop) (omega (arith, h.ends, h.end_in))
+
+  pub first_none : length (take (r.to - r.from) (drop r.from s)) ≡ 0 → (fields_in s ≡ []) × (fields_in (take (length s - r.to) (drop r.to s)) ≡ [])
+  unfolding fields_in fields_from
+  first_none e =
+      ⊎_elim
+      (λ z. (span_none s 0 r h z, rw (drop_of_length-le s {i = r.to} (omega (arith, span_in s 0 r h)), take-nil)))
+      (λ l. absurd (omega (arith, field_there s 0 r.from h.starts l, field_bytes l)))
+      (end_or r.from (length s) h.start_in)
+
+  pub first_some : (length (take (r.to - r.from) (drop r.from s)) ≡ 0 → ⊥)
+      → fields_in s ≡ take (r.to - r.from) (drop r.from s) ∷ fields_in (take (length s - r.to) (drop r.to s))
+  first_some n =
+      ⊎_elim
+      (λ z. absurd (n (rw (drop_of_length-le s {i = r.from} (omega arith), take-nil))))
+      (λ l. rw (rest_is s r.to) (span_some s 0 r h l))
+      (end_or r.from (length s) h.start_in)
 
 -- the only field
 module _ (s : List ℕ) (p : Span) (hp : Spans s 0 p) (q : Span) (hq : Spans s p.to q) where

@@ -3,6 +3,7 @@ use Rattle.std.specs.Prelude.{ℕ, ◌+◌, ◌≤◌, ◌≡◌, List, [], ◌�
 use Rattle.fields.specs.Bytes.{mark_of, space_mark, run}
 use Rattle.fields.specs.declared.Stretch.TheVariants.{Gap, Field}
 use Rattle.fields.specs.declared.Span.{Span}
+use Rattle.fields.specs.declared.Fields.{Fields}
 
 -- a field that is over, before others; an empty one is none
 abbrev pub close : List ℕ → List (List ℕ) → List (List ℕ)
@@ -17,6 +18,10 @@ fields_from f (b ∷ s) = cond (space_mark (mark_of b)) (close f (fields_from []
 -- the fields of a line
 unfoldable pub fields_in : List ℕ → List (List ℕ)
 fields_in s = fields_from [] s
+
+-- the fields that an iterator has left
+abbrev pub fields_left : Fields → List (List ℕ)
+fields_left it = fields_in it.rest.now
 
 -- the only field; nothing if there is none or more than one
 abbrev pub only_of : List (List ℕ) → List ℕ

@@ -2,10 +2,11 @@
 #![tactic(auto)]
 
 ghost use Rattle.std.specs.Prelude.{◌≡◌, true, false, ◌+◌, ◌-◌, ◌*◌, ◌^◌, ◌≤◌, ◌<◌, length, drop};
+ghost use Rattle.std.specs.Iterator.{YieldsFirstRef, item_count};
 ghost use Rattle.fields.specs.Bytes.{mark_of, space_mark, hash_mark, feed_mark, is_in, run, same};
 ghost use Rattle.fields.specs.Texts.{past_of};
 ghost use Rattle.fields.specs.Values.{column_of, cube_of, Small, digit_of, keep, number_of};
-ghost use Rattle.fields.specs.Fields.{fields_in, only_of, Spans};
+ghost use Rattle.fields.specs.Fields.{fields_in, fields_left, only_of, Spans};
 
 // What one byte of a line is.
 #[derive(Clone, Copy)]
@@ -271,6 +272,36 @@ pub fn field_at(s: &[u8], i: usize) -> Span
     let from = run_end(s, i, Stretch::Gap);
     let to = run_end(s, from, Stretch::Field);
     Span { from, to }
+}
+
+// The fields that are left of a line.
+#[derive(Clone, Copy, Debug)]
+pub struct Fields<'a> {
+    rest: &'a [u8],
+}
+
+impl<'a> Fields<'a> {
+    // The fields of a line, one after the other.
+    pub fn new(s: &'a [u8]) -> Fields<'a>
+        ensures { fields_left result ≡ fields_in s.now }
+    {
+        Fields { rest: s }
+    }
+}
+
+impl<'a> Iterator for Fields<'a> {
+    type Item = &'a [u8];
+
+    ghost next_gives = { YieldsFirstRef fields_left };
+
+    ghost remaining = { item_count fields_left };
+
+    fn next(&mut self) -> Option<&'a [u8]> {
+        let Span { from, to } = field_at(self.rest, 0);
+        let field = &self.rest[from..to];
+        self.rest = &self.rest[to..];
+        if field.is_empty() { None } else { Some(field) }
+    }
 }
 
 // The only field, or nothing if there is none or more than one.
