@@ -5,7 +5,10 @@ ghost use Rattle.std.specs.Prelude.{◌≡◌};
 ghost use Rattle.fields.specs.Fields.{fields_in};
 ghost use Rattle.lines.specs.Lines.{other_key, key_of, row_of, row_line, columns_of, sized_of, named_of, typed_of, count_of, stop_of, key_line, class_of, line_of, keep_line, view_of};
 
+mod texts;
+
 use fields::{Cube, Mark, Number, Stretch};
+pub use texts::Lines;
 
 // What a text is: `.type fr` stands in a recording and `.type f` in a sheet.
 #[derive(Clone, Copy)]
