@@ -14,14 +14,15 @@ use Rattle.fields.specs.Texts.{body}
 use Rattle.fields.specs.Fields.{fields_from, fields_in}
 use Rattle.fields.proofs.FieldLaws.{end_or}
 use Rattle.names.specs.Names.{good_names, names_in, Names}
-use Rattle.names.specs.Spans.{between}
+use Rattle.names.specs.Spans.{bytes_of}
+use Rattle.std.specs.Prelude.{Option, Some, None}
 use Rattle.names.proofs.Meaning.{good_iff, good_first}
 use Rattle.naming.specs.Naming.{source_of, name_of}
 use Rattle.naming.specs.Columns.{column_names, all_named, names_for, line_in, name_line}
+use Rattle.naming.specs.declared.NameLine.{NameLine}
 use Rattle.naming.specs.declared.Source.{Source}
-use Rattle.naming.specs.declared.Source.TheVariants.{Panel, Maker, Neither}
-use Rattle.naming.proofs.Looking.{NamedBy, named_by_panel, named_by_maker, none_empty}
-use Rattle.naming.proofs.SourceLaws.{spot_neither, line_panel, line_maker, line_neither}
+use Rattle.naming.proofs.Looking.{NamedBy, named_by_source, none_empty}
+use Rattle.naming.proofs.SourceLaws.{spot_none, line_some, line_none}
 
 -- ---- lists of names
 
@@ -103,23 +104,22 @@ pub record Written (panel maker line : List ℕ) (n : ℕ) : Type 0 where
   pub columns : take n (names_in line) ≡ names_for panel maker n
   pub good : good_names (names_in line) ≡ true
 
-by_line : (panel maker t : List ℕ) (m a e n : ℕ) → NamedBy panel maker (between a e t) m → Written panel maker (line_in t m a e n) n
-by_line panel maker t m a e n x = go (leb n m) refl
+by_line : (panel maker t : List ℕ) (l : NameLine) (n : ℕ) → NamedBy panel maker (bytes_of l.at t) l.columns → Written panel maker (line_in t l n) n
+by_line panel maker t l n x = go (leb n l.columns) refl
   where
-    go : (b : Bool) → leb n m ≡ b → Written panel maker (cond b (between a e t) []) n
-    go true l = record { columns = all_written panel maker (between a e t) m x n (leb-true n m l); good = x.good }
-    go false l = record { columns = no_line n ∙ sym (some_missing panel maker (between a e t) m x n (leb-false n m l)); good = no_line_good }
+    go : (b : Bool) → leb n l.columns ≡ b → Written panel maker (cond b (bytes_of l.at t) []) n
+    go true k = record { columns = all_written panel maker (bytes_of l.at t) l.columns x n (leb-true n l.columns k); good = x.good }
+    go false k = record { columns = no_line n ∙ sym (some_missing panel maker (bytes_of l.at t) l.columns x n (leb-false n l.columns k)); good = no_line_good }
 
 -- so are those of the line that `name_line` hands back
 line_written : (panel maker : List ℕ) (n : ℕ) → Written panel maker (name_line panel maker n) n
 line_written panel maker n = go (source_of panel maker) refl
   where
-    go : (s : Source) → source_of panel maker ≡ s → Written panel maker (name_line panel maker n) n
-    go (Panel m a e) h = rw (← line_panel panel maker m a e n h) (by_line panel maker panel m a e n (named_by_panel panel maker m a e h))
-    go (Maker m a e) h = rw (← line_maker panel maker m a e n h) (by_line panel maker maker m a e n (named_by_maker panel maker m a e h))
-    go Neither h =
-        rw (← line_neither panel maker n h)
-        (record { columns = no_line n ∙ sym (nothing_written panel maker n (λ v. none_empty panel maker v (sym (spot_neither panel maker v h)))); good = no_line_good })
+    go : (o : Option Source) → source_of panel maker ≡ o → Written panel maker (name_line panel maker n) n
+    go (Some s) h = rw (← line_some panel maker s n h) (by_line panel maker (cond s.maker maker panel) s.names n (named_by_source panel maker s h))
+    go None h =
+        rw (← line_none panel maker n h)
+        (record { columns = no_line n ∙ sym (nothing_written panel maker n (λ v. none_empty panel maker v (sym (spot_none panel maker v h)))); good = no_line_good })
 
 pub line_names : (panel maker : List ℕ) (n : ℕ) → take n (names_in (name_line panel maker n)) ≡ names_for panel maker n
 line_names panel maker n = (line_written panel maker n).columns

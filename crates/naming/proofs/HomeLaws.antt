@@ -7,16 +7,19 @@ use mathlib.Core.List.{List, Memᴰ as Mem}
 use mathlib.Core.Logic.{⊎_elim}
 use mathlib.Core.Bool.{Bool, true, false, cond}
 use native.Mathlib.Omega.{arith}
+use Rattle.std.specs.Prelude.{Some, None}
+use Rattle.std.proofs.lemmas.Option.{none-some}
 use lib.Dec.{ltb}
 use lib.ListN.{length, drop, length-take, length-drop, drop_of_length-le}
 use borrow.Author.Tests.{ltb-false}
 use Rattle.fields.specs.Bytes.{run}
 use Rattle.fields.specs.Texts.{lines_of, past_of}
+use Rattle.fields.specs.declared.Span.{Span}
 use Rattle.fields.specs.declared.Stretch.TheVariants.{Whole}
 use Rattle.fields.proofs.ByteLaws.{run_le}
 use Rattle.fields.proofs.FieldLaws.{end_or}
 use Rattle.fields.proofs.TextLaws.{line_at, past_in, past_on}
-use Rattle.names.specs.Spans.{between}
+use Rattle.names.specs.Spans.{between, bytes_of}
 use Rattle.lines.specs.Lines.{line_of, keep_line, view_of}
 use Rattle.lines.proofs.BoundLaws.{view_kept}
 use Rattle.lines.specs.declared.Part.TheVariants.{Ins}
@@ -27,7 +30,6 @@ use Rattle.headers.specs.Places.{is_aside}
 use Rattle.headers.specs.declared.Header.{Header}
 use Rattle.headers.specs.declared.Header.TheVariants.{Names}
 use Rattle.naming.specs.Naming.{home_from, home_of}
-use Rattle.naming.specs.declared.Home.TheVariants.{Stands, Nowhere}
 
 -- a line as the code keeps it is the same header
 pub header_kept : (h : Header) (l : Line) → is_header h (keep_line l) ≡ is_header h l
@@ -56,7 +58,7 @@ home_past t e = go (ltb e (length t)) refl
 
 -- the line from `at` to `e` is the `.ilb` line, or the lines after it are looked at, or it is a row or the end mark
 module _ (t : List ℕ) (at e : ℕ) (h : at < length t) (he : e ≡ at + run Whole (drop at t)) (k : e ≤ length t) where
-  pub home_first : is_header (Names Ins) (line_of (between at e t)) ≡ true → home_from at (lines_of (drop at t)) ≡ Stands at e
+  pub home_first : is_header (Names Ins) (line_of (between at e t)) ≡ true → home_from at (lines_of (drop at t)) ≡ Some (record { from = at; to = e })
   unfolding home_from
   home_first b = rw (line_at t at e h he, b, between_end t at e (omega arith) k)
 
@@ -65,11 +67,11 @@ module _ (t : List ℕ) (at e : ℕ) (h : at < length t) (he : e ≡ at + run Wh
   unfolding home_from
   home_later b d = rw (line_at t at e h he, b, d, between_end t at e (omega arith) k) (home_past t e)
 
-  pub home_none : is_header (Names Ins) (line_of (between at e t)) ≡ false → is_aside (view_of (line_of (between at e t))) ≡ false → home_from at (lines_of (drop at t)) ≡ Nowhere
+  pub home_none : is_header (Names Ins) (line_of (between at e t)) ≡ false → is_aside (view_of (line_of (between at e t))) ≡ false → home_from at (lines_of (drop at t)) ≡ None
   unfolding home_from
   home_none b d = rw (line_at t at e h he, b, d)
 
-pub home_over : (t : List ℕ) (at : ℕ) → length t ≤ at → home_from at (lines_of (drop at t)) ≡ Nowhere
+pub home_over : (t : List ℕ) (at : ℕ) → length t ≤ at → home_from at (lines_of (drop at t)) ≡ None
 unfolding home_from lines_of
 home_over t at h = rw (drop_of_length-le t {i = at} h)
 
@@ -83,45 +85,39 @@ aside_test s l b hl hb = sym (hb ∙ ap (λ (x : Line). is_aside (view_of x)) hl
 
 -- ---- what is found
 
--- the bytes from a to e are one of the lines from the place `at` on, and an `.ilb` line
-pub record Standing (t : List ℕ) (at a e : ℕ) : Type 0 where
-  pub ordered : a ≤ e
-  pub inside : e ≤ length t
-  pub inputs : is_header (Names Ins) (line_of (between a e t)) ≡ true
-  pub among : Mem (between a e t) (lines_of (drop at t))
-
-stands_same : (a e b f : ℕ) → Stands a e ≡ Stands b f → (a ≡ b) × (e ≡ f)
-stands_same a e b f h = (cc, cc)
-
-nowhere_not : (a e : ℕ) → Nowhere ≡ Stands a e → ⊥
-nowhere_not a e h = let z : ◌≡◌ {A = ℕ} 0 1 = cc in omega arith
+-- the bytes of p are one of the lines from the place `at` on, and an `.ilb` line
+pub record Standing (t : List ℕ) (at : ℕ) (p : Span) : Type 0 where
+  pub ordered : p.from ≤ p.to
+  pub inside : p.to ≤ length t
+  pub inputs : is_header (Names Ins) (line_of (bytes_of p t)) ≡ true
+  pub among : Mem (bytes_of p t) (lines_of (drop at t))
 
 -- from one line on, the same being known of the lines after it
-standing_turn : (t : List ℕ) (at a e e' : ℕ) (b d : Bool)
-    → ((at' : ℕ) → at < at' → at' ≤ length t → home_from at' (lines_of (drop at' t)) ≡ Stands a e → Standing t at' a e)
-    → at < length t → e' ≡ at + run Whole (drop at t) → e' ≤ length t
-    → is_header (Names Ins) (line_of (between at e' t)) ≡ b → is_aside (view_of (line_of (between at e' t))) ≡ d
-    → home_from at (lines_of (drop at t)) ≡ Stands a e → Standing t at a e
-standing_turn t at a e e' true d more h he k i v s =
-    let p = stands_same at e' a e (sym (home_first t at e' h he k i) ∙ s) in
-    rw (← p.0, ← p.1) (record { ordered = omega arith; inside = k; inputs = i; among = rw (line_at t at e' h he) (here refl) })
-standing_turn t at a e e' false true more h he k i v s =
-    let m = more (past_of e' (length t)) (past_on at e' (length t) h (omega arith)) (past_in e' (length t) k) (sym (home_later t at e' h he k i v) ∙ s) in
-    record { ordered = m.ordered; inside = m.inside; inputs = m.inputs; among = rw (line_at t at e' h he) (there m.among) }
-standing_turn t at a e e' false false more h he k i v s = absurd (nowhere_not a e (sym (home_none t at e' h he k i v) ∙ s))
+standing_turn : (t : List ℕ) (at e : ℕ) (p : Span) (b d : Bool)
+    → ((at' : ℕ) → at < at' → at' ≤ length t → home_from at' (lines_of (drop at' t)) ≡ Some p → Standing t at' p)
+    → at < length t → e ≡ at + run Whole (drop at t) → e ≤ length t
+    → is_header (Names Ins) (line_of (between at e t)) ≡ b → is_aside (view_of (line_of (between at e t))) ≡ d
+    → home_from at (lines_of (drop at t)) ≡ Some p → Standing t at p
+standing_turn t at e p true d more h he k i v s =
+    let q : record { from = at; to = e } ≡ p = let z = sym (home_first t at e h he k i) ∙ s in cc in
+    rw (← q) (record { ordered = omega arith; inside = k; inputs = i; among = rw (line_at t at e h he) (here refl) })
+standing_turn t at e p false true more h he k i v s =
+    let m = more (past_of e (length t)) (past_on at e (length t) h (omega arith)) (past_in e (length t) k) (sym (home_later t at e h he k i v) ∙ s) in
+    record { ordered = m.ordered; inside = m.inside; inputs = m.inputs; among = rw (line_at t at e h he) (there m.among) }
+standing_turn t at e p false false more h he k i v s = absurd (none-some p (sym (home_none t at e h he k i v) ∙ s))
 
-standing_from : (f : ℕ) (t : List ℕ) (at a e : ℕ) → length t - at ≤ f → at ≤ length t → home_from at (lines_of (drop at t)) ≡ Stands a e → Standing t at a e
-standing_from zero t at a e m h s = absurd (nowhere_not a e (sym (home_over t at (omega arith)) ∙ s))
-standing_from (suc f) t at a e m h s =
+standing_from : (f : ℕ) (t : List ℕ) (at : ℕ) (p : Span) → length t - at ≤ f → at ≤ length t → home_from at (lines_of (drop at t)) ≡ Some p → Standing t at p
+standing_from zero t at p m h s = absurd (none-some p (sym (home_over t at (omega arith)) ∙ s))
+standing_from (suc f) t at p m h s =
     ⊎_elim
-    (λ over. absurd (nowhere_not a e (sym (home_over t at (omega arith)) ∙ s)))
+    (λ over. absurd (none-some p (sym (home_over t at (omega arith)) ∙ s)))
     (λ l.
-    standing_turn t at a e (at + run Whole (drop at t)) _ _
-    (λ at' on in-text s'. standing_from f t at' a e (omega arith) in-text s')
+    standing_turn t at (at + run Whole (drop at t)) p _ _
+    (λ at' on in-text s'. standing_from f t at' p (omega arith) in-text s')
     l refl (omega (arith, run_le Whole (drop at t), length-drop at t)) refl refl s)
     (end_or at (length t) h)
 
 -- what `home_of` tells is an `.ilb` line of the text
-pub home_stands : (t : List ℕ) (a e : ℕ) → home_of t ≡ Stands a e → Standing t 0 a e
+pub home_stands : (t : List ℕ) (p : Span) → home_of t ≡ Some p → Standing t 0 p
 unfolding home_of
-home_stands t a e s = standing_from (length t) t 0 a e (omega arith) (omega arith) s
+home_stands t p s = standing_from (length t) t 0 p (omega arith) (omega arith) s

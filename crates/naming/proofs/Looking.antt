@@ -2,7 +2,7 @@
 use Prim.Native.Nat.{ℕ, ◌+◌, ◌-◌, ◌≤◌, ◌<◌}
 use mathlib.Core.Path.{◌≡◌, refl, sym, ◌∙◌}
 use mathlib.Core.List.{List, []}
-use mathlib.Core.Bool.{Bool, true, false, cond}
+use mathlib.Core.Bool.{true, cond}
 use native.Mathlib.Omega.{arith}
 use lib.ListN.{length, get_or, take, drop, length-take}
 use lib.Seq.{take-take, drop-drop}
@@ -10,7 +10,8 @@ use borrow.Author.Tests.{lt-ltb}
 use denote.Ref.{Bor}
 use Rattle.fields.specs.declared.Span.{Span}
 use Rattle.names.specs.Names.{good_names, names_in, Name}
-use Rattle.names.specs.Spans.{between, bytes_of, name_span}
+use Rattle.names.specs.Spans.{bytes_of, name_span}
+use Rattle.std.specs.Prelude.{Some}
 use Rattle.names.proofs.NameLaws.{drop_take_is}
 use Rattle.names.proofs.SpanLaws.{name_in, name_bytes_lem}
 use Rattle.names.proofs.Meaning.{name_of_good, differ_of_good}
@@ -18,9 +19,9 @@ use Rattle.headers.specs.Layouts.{layout_of}
 use Rattle.naming.specs.Naming.{naming_of, source_for, source_of, no_name, spot_in, spot_for, spot_of, bytes_at, name_of, PartOf}
 use Rattle.naming.specs.declared.Naming.{Naming}
 use Rattle.naming.specs.declared.Naming.TheVariants.{Refused, Nameless, Named}
-use Rattle.naming.specs.declared.Source.TheVariants.{Panel, Maker}
+use Rattle.naming.specs.declared.Source.{Source}
 use Rattle.naming.specs.declared.Spot.{Spot}
-use Rattle.naming.proofs.SourceLaws.{naming_e, source_panel, source_maker, spot_panel, spot_maker, spot_beyond}
+use Rattle.naming.proofs.SourceLaws.{naming_e, source_is, spot_some, spot_beyond}
 use Rattle.naming.proofs.Texts.{good_named}
 
 -- ---- one result
@@ -34,7 +35,7 @@ lookup_unique h k = (h.the_bytes ∙ sym k.the_bytes, h.the_block ∙ sym k.the_
 spot_for_lem : (w v u : Naming) (panel maker other : List ℕ) (column : ℕ) → (w ≡ Nameless → ⊥) → spot_for (source_for w v) panel maker column ≡ spot_for (source_for w u) panel other column
 spot_for_lem Refused v u panel maker other column h = refl
 spot_for_lem Nameless v u panel maker other column h = absurd (h refl)
-spot_for_lem (Named n a e) v u panel maker other column h = refl
+spot_for_lem (Named l) v u panel maker other column h = refl
 
 -- unless the panel's text is good and has no names, it does not matter what the maker's text says
 pub maker_not_asked : (panel maker other : List ℕ) (column : ℕ) → (naming_of panel ≡ Nameless → ⊥) → spot_of panel maker column ≡ spot_of panel other column
@@ -58,21 +59,20 @@ none_if_nameless panel maker column h k = rw (h, k)
 -- ---- the bytes of a name
 
 -- a part of a line, as a part of the text that the line stands in
-part_of_line : (t : List ℕ) (a e : ℕ) (p : Span) → p.to ≤ length (between a e t) → take (p.to - p.from) (drop (a + p.from) t) ≡ bytes_of p (between a e t)
-part_of_line t a e p h =
-    sym (rw (drop_take_is p.from (e - a) (drop a t), drop-drop p.from a t)
-    (take-take (p.to - p.from) (e - a - p.from) (drop (a + p.from) t) (omega (arith, length-take (e - a) (drop a t)))))
+part_of_line : (t : List ℕ) (l p : Span) → p.to ≤ length (bytes_of l t) → take (p.to - p.from) (drop (l.from + p.from) t) ≡ bytes_of p (bytes_of l t)
+part_of_line t l p h =
+    sym (rw (drop_take_is p.from (l.to - l.from) (drop l.from t), drop-drop p.from l.from t)
+    (take-take (p.to - p.from) (l.to - l.from - p.from) (drop (l.from + p.from) t) (omega (arith, length-take (l.to - l.from) (drop l.from t)))))
 
-bytes_below : (b : Bool) (panel maker t : List ℕ) (n a e v : ℕ) → cond b maker panel ≡ t → v < n → bytes_at (spot_in b t n a e v) panel maker ≡ get_or (names_in (between a e t)) v []
-bytes_below b panel maker t n a e v q h = rw (lt-ltb v n h, q) (part_of_line t a e (name_span (between a e t) v) (name_in (between a e t) v).1 ∙ name_bytes_lem (between a e t) v)
+bytes_below : (panel maker : List ℕ) (s : Source) (v : ℕ) → v < s.names.columns
+    → bytes_at (spot_in s.maker (cond s.maker maker panel) s.names v) panel maker ≡ get_or (names_in (bytes_of s.names.at (cond s.maker maker panel))) v []
+bytes_below panel maker s v h =
+    let line = bytes_of s.names.at (cond s.maker maker panel) in
+    rw (lt-ltb v s.names.columns h) (part_of_line (cond s.maker maker panel) s.names.at (name_span line v) (name_in line v).1 ∙ name_bytes_lem line v)
 
-name_panel : (panel maker : List ℕ) (n a e v : ℕ) → source_of panel maker ≡ Panel n a e → name_of panel maker v ≡ bytes_at (spot_in false panel n a e v) panel maker
+name_some : (panel maker : List ℕ) (s : Source) (v : ℕ) → source_of panel maker ≡ Some s → name_of panel maker v ≡ bytes_at (spot_in s.maker (cond s.maker maker panel) s.names v) panel maker
 unfolding name_of
-name_panel panel maker n a e v h = rw (← spot_panel panel maker n a e v h)
-
-name_maker : (panel maker : List ℕ) (n a e v : ℕ) → source_of panel maker ≡ Maker n a e → name_of panel maker v ≡ bytes_at (spot_in true maker n a e v) panel maker
-unfolding name_of
-name_maker panel maker n a e v h = rw (← spot_maker panel maker n a e v h)
+name_some panel maker s v h = rw (← spot_some panel maker s v h)
 
 -- ---- the names of the columns
 
@@ -83,28 +83,17 @@ pub record NamedBy (panel maker line : List ℕ) (n : ℕ) : Type 0 where
   pub below : (v : ℕ) → v < n → name_of panel maker v ≡ get_or (names_in line) v []
   pub beyond : (v : ℕ) → n ≤ v → spot_of panel maker v ≡ no_name
 
--- of the panel's line, where the panel's text has names
-pub named_by_panel : (panel maker : List ℕ) (n a e : ℕ) → source_of panel maker ≡ Panel n a e → NamedBy panel maker (between a e panel) n
-named_by_panel panel maker n a e h =
-    let w = naming_e panel n a e (source_panel panel maker n a e h) in
-    let x = good_named (layout_of w.0.0) panel n a e w.0.1 w.1 in
+-- of the line that two texts give
+pub named_by_source : (panel maker : List ℕ) (s : Source) → source_of panel maker ≡ Some s → NamedBy panel maker (bytes_of s.names.at (cond s.maker maker panel)) s.names.columns
+named_by_source panel maker s h =
+    let t = cond s.maker maker panel in
+    let w = naming_e t s.names (source_is panel maker s h) in
+    let x = good_named (layout_of w.0.0) t s.names.columns s.names.at w.0.1 w.1 in
     record {
       many = x.many;
       good = x.good;
-      below = λ v l. name_panel panel maker n a e v h ∙ bytes_below false panel maker panel n a e v refl l;
-      beyond = λ v l. sym (spot_beyond false panel n a e v l ∙ spot_panel panel maker n a e v h);
-    }
-
--- of the maker's line, where the panel's text has none and the maker's has
-pub named_by_maker : (panel maker : List ℕ) (n a e : ℕ) → source_of panel maker ≡ Maker n a e → NamedBy panel maker (between a e maker) n
-named_by_maker panel maker n a e h =
-    let w = naming_e maker n a e (source_maker panel maker n a e h).1 in
-    let x = good_named (layout_of w.0.0) maker n a e w.0.1 w.1 in
-    record {
-      many = x.many;
-      good = x.good;
-      below = λ v l. name_maker panel maker n a e v h ∙ bytes_below true panel maker maker n a e v refl l;
-      beyond = λ v l. sym (spot_beyond true maker n a e v l ∙ spot_maker panel maker n a e v h);
+      below = λ v l. name_some panel maker s v h ∙ bytes_below panel maker s v l;
+      beyond = λ v l. sym (spot_beyond s.maker t s.names v l ∙ spot_some panel maker s v h);
     }
 
 -- the empty part is no name

@@ -11,7 +11,8 @@ use lib.ListN.{get_or}
 use lib.Seq.{take_all}
 use Rattle.fields.specs.Texts.{lines_of}
 use Rattle.names.specs.Names.{names_in}
-use Rattle.names.specs.Spans.{between}
+use Rattle.names.specs.Spans.{bytes_of}
+use Rattle.fields.specs.declared.Span.{Span}
 use Rattle.lines.specs.Lines.{line_of}
 use Rattle.lines.specs.declared.Part.TheVariants.{Ins}
 use Rattle.lines.specs.declared.Line.{Line}
@@ -25,21 +26,19 @@ use Rattle.headers.specs.declared.Header.{Header}
 use Rattle.headers.specs.declared.Header.TheVariants.{Names, TypeWord}
 use Rattle.headers.specs.declared.Layout.{Layout}
 use Rattle.headers.specs.Verdicts.{Verdict}
-use Rattle.std.specs.Prelude.{Ok, Err}
+use Rattle.std.specs.Prelude.{Option, Some, None, Ok, Err}
 use Rattle.headers.proofs.Accepting.{good_iff_text}
 use Rattle.headers.proofs.Sizes.{times_append}
 use Rattle.headers.proofs.OneKind.{typed_stands, never_both}
 use Rattle.naming.specs.Columns.{names_for}
 use Rattle.naming.specs.Answers.{Answers, WithNames, WithoutNames, BadText}
 use Rattle.naming.specs.Naming.{home_of, either_of, judge_either, naming_for, naming_of, no_name, spot_of}
-use Rattle.naming.specs.declared.Home.{Home}
-use Rattle.naming.specs.declared.Home.TheVariants.{Stands, Nowhere}
 use Rattle.naming.specs.declared.Naming.TheVariants.{Refused, Nameless, Named}
 use Rattle.naming.proofs.HomeLaws.{home_stands}
 use Rattle.naming.proofs.SourceLaws.{source_nameless, source_named}
 use Rattle.naming.proofs.Texts.{nowhere_nameless, names_of_text}
 use Rattle.naming.proofs.ColumnLaws.{all_written, nothing_written}
-use Rattle.naming.proofs.Looking.{NamedBy, named_by_panel, named_by_maker, none_empty, name_is_name, names_differ, none_if_panel_refused, none_if_maker_refused, none_if_nameless}
+use Rattle.naming.proofs.Looking.{NamedBy, named_by_source, none_empty, name_is_name, names_differ, none_if_panel_refused, none_if_maker_refused, none_if_nameless}
 
 -- ---- how often a header stands
 
@@ -75,20 +74,20 @@ top_times lay h n t x =
 
 -- ---- the home of the names
 
-home_of_names : (lay : Layout) (n : ℕ) (t : List ℕ) (x : Accepted lay n t) → WithNames lay n t x → (a : ℕ) × (e : ℕ) × (home_of t ≡ Stands a e)
+home_of_names : (lay : Layout) (n : ℕ) (t : List ℕ) (x : Accepted lay n t) → WithNames lay n t x → (p : Span) × (home_of t ≡ Some p)
 home_of_names lay n t x w = go (home_of t) refl
   where
-    go : (h : Home) → home_of t ≡ h → (a : ℕ) × (e : ℕ) × (home_of t ≡ Stands a e)
-    go (Stands a e) h = (a, e, h)
-    go Nowhere h = absurd (omega (arith, w, nowhere_nameless lay t n x h Ins))
+    go : (o : Option Span) → home_of t ≡ o → (p : Span) × (home_of t ≡ Some p)
+    go (Some p) h = (p, h)
+    go None h = absurd (omega (arith, w, nowhere_nameless lay t n x h Ins))
 
-home_of_none : (lay : Layout) (n : ℕ) (t : List ℕ) (x : Accepted lay n t) → WithoutNames lay n t x → home_of t ≡ Nowhere
+home_of_none : (lay : Layout) (n : ℕ) (t : List ℕ) (x : Accepted lay n t) → WithoutNames lay n t x → home_of t ≡ None
 home_of_none lay n t x w = go (home_of t) refl
   where
-    go : (h : Home) → home_of t ≡ h → home_of t ≡ Nowhere
-    go Nowhere h = h
-    go (Stands a e) h =
-        let s = home_stands t a e h in
+    go : (o : Option Span) → home_of t ≡ o → home_of t ≡ None
+    go None h = h
+    go (Some p) h =
+        let s = home_stands t p h in
         absurd (omega (arith, header_times (Names Ins) s.among s.inputs, top_times lay (Names Ins) n t x, w))
 
 -- ---- what the texts say
@@ -103,9 +102,9 @@ either_good Sheet n t x = go (judge_of recording t) refl
     go (Ok m) e = absurd (never_both m n t ((good_iff_text recording t m).0 e) x)
     go (Err k) e = (good_iff_text sheet t n).1 x
 
-naming_with : (kind : Kind) (n : ℕ) (t : List ℕ) (x : Accepted (layout_of kind) n t) (a e : ℕ) → home_of t ≡ Stands a e → naming_of t ≡ Named n a e
+naming_with : (kind : Kind) (n : ℕ) (t : List ℕ) (x : Accepted (layout_of kind) n t) (p : Span) → home_of t ≡ Some p → naming_of t ≡ Named (record { columns = n; at = p })
 unfolding naming_of
-naming_with kind n t x a e h = rw (either_good kind n t x, h)
+naming_with kind n t x p h = rw (either_good kind n t x, h)
 
 naming_without : (kind : Kind) (n : ℕ) (t : List ℕ) (x : Accepted (layout_of kind) n t) → WithoutNames (layout_of kind) n t x → naming_of t ≡ Nameless
 unfolding naming_of
@@ -145,17 +144,17 @@ answers_by panel maker line n ns q x =
 pub own_names : (kind : Kind) (panel maker : List ℕ) (n : ℕ) (x : Accepted (layout_of kind) n panel) → WithNames (layout_of kind) n panel x → Answers panel maker n x.names
 own_names kind panel maker n x w =
     let h = home_of_names (layout_of kind) n panel x w in
-    answers_by panel maker (between h.0 h.1 panel) n x.names (names_of_text (layout_of kind) panel n h.0 h.1 x h.2)
-    (named_by_panel panel maker n h.0 h.1 (sym (source_named panel maker n h.0 h.1 (naming_with kind n panel x h.0 h.1 h.2))))
+    answers_by panel maker (bytes_of h.0 panel) n x.names (names_of_text (layout_of kind) panel n h.0 x h.1)
+    (named_by_source panel maker _ (sym (source_named panel maker _ (naming_with kind n panel x h.0 h.1))))
 
 -- the maker's, where the panel's text has none
 pub makers_names : (kind other : Kind) (panel maker : List ℕ) (m n : ℕ) (x : Accepted (layout_of kind) m panel) (y : Accepted (layout_of other) n maker)
     → WithoutNames (layout_of kind) m panel x → WithNames (layout_of other) n maker y → Answers panel maker n y.names
 makers_names kind other panel maker m n x y w u =
     let h = home_of_names (layout_of other) n maker y u in
-    let k = naming_with other n maker y h.0 h.1 h.2 in
-    answers_by panel maker (between h.0 h.1 maker) n y.names (names_of_text (layout_of other) maker n h.0 h.1 y h.2)
-    (named_by_maker panel maker n h.0 h.1 (sym (source_nameless panel maker (naming_without kind m panel x w)) ∙ rw k))
+    let k = naming_with other n maker y h.0 h.1 in
+    answers_by panel maker (bytes_of h.0 maker) n y.names (names_of_text (layout_of other) maker n h.0 y h.1)
+    (named_by_source panel maker (record { maker = true; names = record { columns = n; at = h.0 } }) (sym (source_nameless panel maker (naming_without kind m panel x w)) ∙ rw k))
 
 -- neither has names
 pub no_names : (kind other : Kind) (panel maker : List ℕ) (m n : ℕ) (x : Accepted (layout_of kind) m panel) (y : Accepted (layout_of other) n maker)
@@ -185,10 +184,10 @@ module _ (kind : Kind) (panel maker : List ℕ) (n : ℕ) (x : Accepted (layout_
   pub own_written : WithNames (layout_of kind) n panel x → names_for panel maker n ≡ x.names
   own_written w =
       let h = home_of_names (layout_of kind) n panel x w in
-      let q : NamedBy panel maker (between h.0 h.1 panel) n =
-      named_by_panel panel maker n h.0 h.1 (sym (source_named panel maker n h.0 h.1 (naming_with kind n panel x h.0 h.1 h.2))) in
-      let ns = names_of_text (layout_of kind) panel n h.0 h.1 x h.2 in
-      sym (all_written panel maker (between h.0 h.1 panel) n q n (omega arith)) ∙ take_all n (names_in (between h.0 h.1 panel)) (omega (arith, q.many)) ∙ ns
+      let q : NamedBy panel maker (bytes_of h.0 panel) n =
+      named_by_source panel maker _ (sym (source_named panel maker _ (naming_with kind n panel x h.0 h.1))) in
+      let ns = names_of_text (layout_of kind) panel n h.0 x h.1 in
+      sym (all_written panel maker (bytes_of h.0 panel) n q n (omega arith)) ∙ take_all n (names_in (bytes_of h.0 panel)) (omega (arith, q.many)) ∙ ns
 
   -- and with none, if it has none and the maker's text is bad
   pub none_written : WithoutNames (layout_of kind) n panel x → BadText maker → (k : ℕ) → names_for panel maker k ≡ []

@@ -1,6 +1,6 @@
 -- Which name line two texts give, where it stands, and the part of it that is a column's name.
 use Prim.Native.Nat.{ℕ, ◌+◌, ◌-◌, ◌≤◌, ◌<◌}
-use mathlib.Core.Path.{◌≡◌, refl, sym, ◌∙◌, ap}
+use mathlib.Core.Path.{◌≡◌, refl, ◌∙◌, ap}
 use mathlib.Core.List.{List, []}
 use mathlib.Core.Bool.{Bool, true, false, cond}
 use native.Mathlib.Omega.{arith}
@@ -9,50 +9,26 @@ use lib.Dec.{ltb}
 use lib.ListN.{length, take, drop, length-take, length-drop}
 use borrow.Author.Tests.{lt-ltb, le-ltb}
 use denote.Ref.{Bor}
+use Rattle.std.specs.Prelude.{Option, Some, None, Ok, Err}
+use Rattle.std.proofs.lemmas.Option.{none-some}
 use Rattle.fields.specs.declared.Span.{Span}
-use Rattle.names.specs.Spans.{between, name_span}
+use Rattle.names.specs.Spans.{bytes_of, name_span}
 use Rattle.names.proofs.SpanLaws.{name_in}
 use Rattle.lines.specs.declared.Kind.{Kind}
 use Rattle.lines.specs.declared.Kind.TheVariants.{Recording, Sheet}
 use Rattle.headers.specs.Layouts.{recording, sheet, layout_of}
 use Rattle.headers.specs.Verdicts.{judge_of}
-use Rattle.headers.specs.declared.Layout.{Layout}
 use Rattle.headers.specs.Verdicts.{Verdict}
-use Rattle.std.specs.Prelude.{Ok, Err}
 use Rattle.naming.specs.Naming.{home_of, either_of, judge_either, naming_for, naming_of, makers_source, source_for, source_of, no_name, spot_at, spot_in, spot_of, Within, PartOf}
 use Rattle.naming.specs.Columns.{line_in, name_line}
-use Rattle.naming.specs.declared.Home.{Home}
-use Rattle.naming.specs.declared.Home.TheVariants.{Stands, Nowhere}
+use Rattle.naming.specs.declared.NameLine.{NameLine}
 use Rattle.naming.specs.declared.Naming.{Naming}
 use Rattle.naming.specs.declared.Naming.TheVariants.{Refused, Nameless, Named}
 use Rattle.naming.specs.declared.Source.{Source}
-use Rattle.naming.specs.declared.Source.TheVariants.{Panel, Maker, Neither}
 use Rattle.naming.specs.declared.Spot.{Spot}
 use Rattle.naming.proofs.HomeLaws.{home_stands}
 
 -- ---- one text
-
--- as the code finds the verdict: as a recording, and else as a sheet
-module _ (t : List ℕ) (lay : Layout) (v : Verdict) (hl : lay ≡ recording) (hv : v ≡ judge_of lay t) where
-  verdict_is : judge_of recording t ≡ v
-  verdict_is = sym (hv ∙ ap (λ (l : Layout). judge_of l t) hl)
-
-  pub either_first : (n : ℕ) → v ≡ Ok n → Ok n ≡ judge_either t
-  unfolding judge_either
-  either_first n g = rw (verdict_is, g)
-
-  pub either_second : (k : ℕ) (other : Layout) (r : Verdict) → v ≡ Err k → other ≡ sheet → r ≡ judge_of other t → r ≡ judge_either t
-  unfolding judge_either
-  either_second k other r g ho hr = hr ∙ ap (λ (l : Layout). judge_of l t) ho ∙ rw (verdict_is, g)
-
--- by the verdict on it
-pub naming_good : (t : List ℕ) (v : Verdict) → v ≡ judge_either t → (n : ℕ) (h : Home) (r : Naming) → v ≡ Ok n → h ≡ home_of t → r ≡ naming_for (Ok n) h → r ≡ naming_of t
-unfolding naming_of
-naming_good t v hv n h r g e q = q ∙ rw (← hv, g, e)
-
-pub naming_bad : (t : List ℕ) (v : Verdict) → v ≡ judge_either t → (k : ℕ) → v ≡ Err k → Refused ≡ naming_of t
-unfolding naming_of
-naming_bad t v hv k g = rw (← hv, g)
 
 -- a good text of either kind is good for one of them
 either_kind : (t : List ℕ) (n : ℕ) → judge_either t ≡ Ok n → (kind : Kind) × (judge_of (layout_of kind) t ≡ Ok n)
@@ -63,125 +39,92 @@ either_kind t n h = go (judge_of recording t) refl h
     go (Ok m) e q = (Recording, e ∙ q)
     go (Err k) e q = (Sheet, q)
 
--- a text that names columns is a good one, and has an `.ilb` line
-pub naming_e : (t : List ℕ) (n a e : ℕ) → naming_of t ≡ Named n a e → ((kind : Kind) × (judge_of (layout_of kind) t ≡ Ok n)) × (home_of t ≡ Stands a e)
+-- a text with a name line is a good one, and the line is its `.ilb` line
+pub naming_e : (t : List ℕ) (l : NameLine) → naming_of t ≡ Named l → ((kind : Kind) × (judge_of (layout_of kind) t ≡ Ok l.columns)) × (home_of t ≡ Some l.at)
 unfolding naming_of
-naming_e t n a e h = let k = go (judge_either t) refl (home_of t) refl h in (either_kind t n k.0, k.1)
+naming_e t l h = let k = go (judge_either t) refl (home_of t) refl h in (either_kind t l.columns k.0, k.1)
   where
-    go : (v : Verdict) → judge_either t ≡ v → (m : Home) → home_of t ≡ m → naming_for v m ≡ Named n a e → (judge_either t ≡ Ok n) × (home_of t ≡ Stands a e)
+    go : (v : Verdict) → judge_either t ≡ v → (m : Option Span) → home_of t ≡ m → naming_for v m ≡ Named l → (judge_either t ≡ Ok l.columns) × (home_of t ≡ Some l.at)
     go (Err k) p m q h = absurd (let z : ◌≡◌ {A = ℕ} 0 1 = cc in omega arith)
-    go (Ok k) p Nowhere q h = absurd (let z : ◌≡◌ {A = ℕ} 0 1 = cc in omega arith)
-    go (Ok k) p (Stands b f) q h = (cc, cc)
+    go (Ok k) p None q h = absurd (let z : ◌≡◌ {A = ℕ} 0 1 = cc in omega arith)
+    go (Ok k) p (Some b) q h =
+        let e : record { columns = k; at = b } ≡ l = cc in
+        (p ∙ ap (λ (x : NameLine). Ok x.columns) e, q ∙ ap (λ (x : NameLine). Some x.at) e)
 
--- the line from a to e lies in its text
-pub named_in : (t : List ℕ) (n a e : ℕ) → naming_of t ≡ Named n a e → (a ≤ e) × (e ≤ length t)
-named_in t n a e h = let s = home_stands t a e (naming_e t n a e h).1 in (s.ordered, s.inside)
+-- the name line lies in its text
+pub named_in : (t : List ℕ) (l : NameLine) → naming_of t ≡ Named l → (l.at.from ≤ l.at.to) × (l.at.to ≤ length t)
+named_in t l h = let s = home_stands t l.at (naming_e t l h).1 in (s.ordered, s.inside)
 
 -- ---- two texts
 
-source_cases : (w v : Naming) (n a e : ℕ) → source_for w v ≡ Panel n a e → w ≡ Named n a e
-source_cases Refused v n a e h = absurd (let z : ◌≡◌ {A = ℕ} 0 1 = cc in omega arith)
-source_cases Nameless Refused n a e h = absurd (let z : ◌≡◌ {A = ℕ} 0 1 = cc in omega arith)
-source_cases Nameless Nameless n a e h = absurd (let z : ◌≡◌ {A = ℕ} 0 1 = cc in omega arith)
-source_cases Nameless (Named m b f) n a e h = absurd (let z : ◌≡◌ {A = ℕ} 0 1 = cc in omega arith)
-source_cases (Named m b f) v n a e h = cc
+source_cases : (panel maker : List ℕ) (s : Source) (w v : Naming) → naming_of panel ≡ w → naming_of maker ≡ v → source_for w v ≡ Some s → naming_of (cond s.maker maker panel) ≡ Named s.names
+source_cases panel maker s Refused v p q h = absurd (none-some s h)
+source_cases panel maker s Nameless Refused p q h = absurd (none-some s h)
+source_cases panel maker s Nameless Nameless p q h = absurd (none-some s h)
+source_cases panel maker s Nameless (Named l) p q h = let e : record { maker = true; names = l } ≡ s = cc in rw (← e) q
+source_cases panel maker s (Named l) v p q h = let e : record { maker = false; names = l } ≡ s = cc in rw (← e) p
 
-maker_cases : (w v : Naming) (n a e : ℕ) → source_for w v ≡ Maker n a e → (w ≡ Nameless) × (v ≡ Named n a e)
-maker_cases Refused v n a e h = absurd (let z : ◌≡◌ {A = ℕ} 0 1 = cc in omega arith)
-maker_cases Nameless Refused n a e h = absurd (let z : ◌≡◌ {A = ℕ} 0 1 = cc in omega arith)
-maker_cases Nameless Nameless n a e h = absurd (let z : ◌≡◌ {A = ℕ} 0 1 = cc in omega arith)
-maker_cases Nameless (Named m b f) n a e h = (refl, cc)
-maker_cases (Named m b f) v n a e h = absurd (let z : ◌≡◌ {A = ℕ} 0 1 = cc in omega arith)
-
--- the panel's line is used where the panel's text has names
-pub source_panel : (panel maker : List ℕ) (n a e : ℕ) → source_of panel maker ≡ Panel n a e → naming_of panel ≡ Named n a e
+-- the line that is used is that of its text
+pub source_is : (panel maker : List ℕ) (s : Source) → source_of panel maker ≡ Some s → naming_of (cond s.maker maker panel) ≡ Named s.names
 unfolding source_of
-source_panel panel maker n a e h = source_cases (naming_of panel) (naming_of maker) n a e h
-
--- the maker's line is used where the panel's text has none, and the maker's has
-pub source_maker : (panel maker : List ℕ) (n a e : ℕ) → source_of panel maker ≡ Maker n a e → (naming_of panel ≡ Nameless) × (naming_of maker ≡ Named n a e)
-unfolding source_of
-source_maker panel maker n a e h = maker_cases (naming_of panel) (naming_of maker) n a e h
+source_is panel maker s h = source_cases panel maker s (naming_of panel) (naming_of maker) refl refl h
 
 -- by what the panel's text says
-pub source_refused : (panel maker : List ℕ) → naming_of panel ≡ Refused → Neither ≡ source_of panel maker
-unfolding source_of
-source_refused panel maker h = rw h
-
 pub source_nameless : (panel maker : List ℕ) → naming_of panel ≡ Nameless → makers_source (naming_of maker) ≡ source_of panel maker
 unfolding source_of
 source_nameless panel maker h = rw h
 
-pub source_named : (panel maker : List ℕ) (n a e : ℕ) → naming_of panel ≡ Named n a e → Panel n a e ≡ source_of panel maker
+pub source_named : (panel maker : List ℕ) (l : NameLine) → naming_of panel ≡ Named l → Some (record { maker = false; names = l }) ≡ source_of panel maker
 unfolding source_of
-source_named panel maker n a e h = rw h
+source_named panel maker l h = rw h
 
-pub panel_in : (panel maker : List ℕ) (n a e : ℕ) → source_of panel maker ≡ Panel n a e → (a ≤ e) × (e ≤ length panel)
-panel_in panel maker n a e h = named_in panel n a e (source_panel panel maker n a e h)
-
-pub maker_in : (panel maker : List ℕ) (n a e : ℕ) → source_of panel maker ≡ Maker n a e → (a ≤ e) × (e ≤ length maker)
-maker_in panel maker n a e h = named_in maker n a e (source_maker panel maker n a e h).1
+-- the line lies in its text
+pub source_in : (panel maker : List ℕ) (s : Source) → source_of panel maker ≡ Some s → (s.names.at.from ≤ s.names.at.to) × (s.names.at.to ≤ length (cond s.maker maker panel))
+source_in panel maker s h = named_in (cond s.maker maker panel) s.names (source_is panel maker s h)
 
 -- ---- a column
 
-pub spot_beyond : (b : Bool) (t : List ℕ) (n a e column : ℕ) → n ≤ column → no_name ≡ spot_in b t n a e column
-spot_beyond b t n a e column h = rw (le-ltb column n h)
+pub spot_beyond : (b : Bool) (t : List ℕ) (l : NameLine) (column : ℕ) → l.columns ≤ column → no_name ≡ spot_in b t l column
+spot_beyond b t l column h = rw (le-ltb column l.columns h)
 
-pub spot_below : (b : Bool) (t : List ℕ) (n a e column : ℕ) (p : Span) → column < n → p ≡ name_span (between a e t) column → spot_at b a p ≡ spot_in b t n a e column
-spot_below b t n a e column p h q = rw (lt-ltb column n h, q)
+pub spot_below : (b : Bool) (t : List ℕ) (l : NameLine) (column : ℕ) (p : Span) → column < l.columns → p ≡ name_span (bytes_of l.at t) column → spot_at b l.at.from p ≡ spot_in b t l column
+spot_below b t l column p h q = rw (lt-ltb column l.columns h, q)
 
 -- the part of the line that is a name lies in the line
-pub part_in : (t : List ℕ) (a e : ℕ) (p : Span) → a ≤ e → e ≤ length t → p.from ≤ p.to → p.to ≤ length (between a e t) → a + p.from + (p.to - p.from) ≤ length t
-part_in t a e p h k o i = omega (arith, length-take (e - a) (drop a t), length-drop a t)
+pub part_in : (t : List ℕ) (l p : Span) → l.from ≤ l.to → l.to ≤ length t → p.from ≤ p.to → p.to ≤ length (bytes_of l t) → l.from + p.from + (p.to - p.from) ≤ length t
+part_in t l p h k o i = omega (arith, length-take (l.to - l.from) (drop l.from t), length-drop l.from t)
 
-within_in : (panel maker t : List ℕ) (b : Bool) (n a e column : ℕ) → cond b maker panel ≡ t → a ≤ e → e ≤ length t → Within panel maker (spot_in b t n a e column)
-within_in panel maker t b n a e column q h k = go (ltb column n)
-  where
-    go : (c : Bool) → Within panel maker (cond c (spot_at b a (name_span (between a e t) column)) no_name)
-    go true =
-        let p = name_span (between a e t) column in
-        let i = name_in (between a e t) column in
-        record { ends = rw q (part_in t a e p h k i.0 i.1) }
-    go false = record { ends = omega arith }
-
-pub spot_panel : (panel maker : List ℕ) (n a e column : ℕ) → source_of panel maker ≡ Panel n a e → spot_in false panel n a e column ≡ spot_of panel maker column
+pub spot_some : (panel maker : List ℕ) (s : Source) (column : ℕ) → source_of panel maker ≡ Some s → spot_in s.maker (cond s.maker maker panel) s.names column ≡ spot_of panel maker column
 unfolding spot_of
-spot_panel panel maker n a e column h = rw h
+spot_some panel maker s column h = rw h
 
-pub spot_maker : (panel maker : List ℕ) (n a e column : ℕ) → source_of panel maker ≡ Maker n a e → spot_in true maker n a e column ≡ spot_of panel maker column
+pub spot_none : (panel maker : List ℕ) (column : ℕ) → source_of panel maker ≡ None → no_name ≡ spot_of panel maker column
 unfolding spot_of
-spot_maker panel maker n a e column h = rw h
-
-pub spot_neither : (panel maker : List ℕ) (column : ℕ) → source_of panel maker ≡ Neither → no_name ≡ spot_of panel maker column
-unfolding spot_of
-spot_neither panel maker column h = rw h
+spot_none panel maker column h = rw h
 
 -- a name lies in its text
 pub spot_within : (panel maker : List ℕ) (column : ℕ) → Within panel maker (spot_of panel maker column)
 spot_within panel maker column = go (source_of panel maker) refl
   where
-    go : (s : Source) → source_of panel maker ≡ s → Within panel maker (spot_of panel maker column)
-    go (Panel n a e) h =
-        let i = panel_in panel maker n a e h in
-        rw (← spot_panel panel maker n a e column h) (within_in panel maker panel false n a e column refl i.0 i.1)
-    go (Maker n a e) h =
-        let i = maker_in panel maker n a e h in
-        rw (← spot_maker panel maker n a e column h) (within_in panel maker maker true n a e column refl i.0 i.1)
-    go Neither h = rw (← spot_neither panel maker column h) (record { ends = omega arith })
+    part : (s : Source) → source_of panel maker ≡ Some s → (c : Bool) → Within panel maker (cond c (spot_at s.maker s.names.at.from (name_span (bytes_of s.names.at (cond s.maker maker panel)) column)) no_name)
+    part s h true =
+        let l = s.names.at in
+        let t = cond s.maker maker panel in
+        let o = source_in panel maker s h in
+        let i = name_in (bytes_of l t) column in
+        record { ends = part_in t l (name_span (bytes_of l t) column) o.0 o.1 i.0 i.1 }
+    part s h false = record { ends = omega arith }
 
-found : (panel maker : List ℕ) (column : ℕ) (r : Spot) → r ≡ spot_of panel maker column → (r ≡ spot_of panel maker column) × Within panel maker r
-found panel maker column r e = (e, rw e (spot_within panel maker column))
+    go : (o : Option Source) → source_of panel maker ≡ o → Within panel maker (spot_of panel maker column)
+    go (Some s) h = rw (← spot_some panel maker s column h) (part s h (ltb column s.names.columns))
+    go None h = rw (← spot_none panel maker column h) (record { ends = omega arith })
 
--- what `find` hands back, by the name line s that is used
-module _ (panel maker : List ℕ) (column : ℕ) (s : Source) (hs : s ≡ source_of panel maker) (r : Spot) where
-  pub found_panel : (n a e : ℕ) → s ≡ Panel n a e → r ≡ spot_in false panel n a e column → (r ≡ spot_of panel maker column) × Within panel maker r
-  found_panel n a e g q = found panel maker column r (q ∙ spot_panel panel maker n a e column (sym hs ∙ g))
-
-  pub found_maker : (n a e : ℕ) → s ≡ Maker n a e → r ≡ spot_in true maker n a e column → (r ≡ spot_of panel maker column) × Within panel maker r
-  found_maker n a e g q = found panel maker column r (q ∙ spot_maker panel maker n a e column (sym hs ∙ g))
-
-  pub found_neither : s ≡ Neither → r ≡ no_name → (r ≡ spot_of panel maker column) × Within panel maker r
-  found_neither g q = found panel maker column r (q ∙ spot_neither panel maker column (sym hs ∙ g))
+-- what `find` hands back of the name line that two texts give
+pub found : (panel maker : List ℕ) (column : ℕ) (s : Source) → source_of panel maker ≡ Some s → (p : Span) → column < s.names.columns → p ≡ name_span (bytes_of s.names.at (cond s.maker maker panel)) column
+    → (spot_at s.maker s.names.at.from p ≡ spot_of panel maker column) × Within panel maker (spot_at s.maker s.names.at.from p)
+found panel maker column s h p k q =
+    let e : spot_at s.maker s.names.at.from p ≡ spot_of panel maker column = spot_below s.maker (cond s.maker maker panel) s.names column p k q ∙ spot_some panel maker s column h in
+    (e, rw e (spot_within panel maker column))
 
 -- ---- the part that is handed back
 
@@ -211,14 +154,10 @@ module _ (panel maker : Bor (List ℕ)) (s q : Spot) (e : q ≡ s) (bytes : List
 
 -- ---- the name line
 
-pub line_panel : (panel maker : List ℕ) (m a e n : ℕ) → source_of panel maker ≡ Panel m a e → line_in panel m a e n ≡ name_line panel maker n
+pub line_some : (panel maker : List ℕ) (s : Source) (n : ℕ) → source_of panel maker ≡ Some s → line_in (cond s.maker maker panel) s.names n ≡ name_line panel maker n
 unfolding name_line
-line_panel panel maker m a e n h = rw h
+line_some panel maker s n h = rw h
 
-pub line_maker : (panel maker : List ℕ) (m a e n : ℕ) → source_of panel maker ≡ Maker m a e → line_in maker m a e n ≡ name_line panel maker n
+pub line_none : (panel maker : List ℕ) (n : ℕ) → source_of panel maker ≡ None → [] ≡ name_line panel maker n
 unfolding name_line
-line_maker panel maker m a e n h = rw h
-
-pub line_neither : (panel maker : List ℕ) (n : ℕ) → source_of panel maker ≡ Neither → [] ≡ name_line panel maker n
-unfolding name_line
-line_neither panel maker n h = rw h
+line_none panel maker n h = rw h

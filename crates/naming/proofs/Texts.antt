@@ -9,8 +9,9 @@ use mathlib.Core.Bool.{Bool, true, false, cond, false≢true}
 use native.Mathlib.Omega.{arith}
 use lib.ListN.{length}
 use Rattle.fields.specs.Texts.{lines_of}
+use Rattle.fields.specs.declared.Span.{Span}
 use Rattle.names.specs.Names.{good_names, names_in}
-use Rattle.names.specs.Spans.{between}
+use Rattle.names.specs.Spans.{bytes_of}
 use Rattle.lines.specs.Lines.{line_of, view_of}
 use Rattle.lines.specs.Bounds.{NamesOk}
 use Rattle.lines.specs.declared.Part.{Part}
@@ -23,12 +24,11 @@ use Rattle.headers.specs.Accepted.{is_header, one, times, rows_in, HeaderLine, R
 use Rattle.headers.specs.Places.{is_aside}
 use Rattle.headers.specs.declared.Layout.{Layout}
 use Rattle.headers.specs.declared.Header.TheVariants.{Names}
-use Rattle.std.specs.Prelude.{Ok}
+use Rattle.std.specs.Prelude.{Some, None, Ok}
 use Rattle.headers.proofs.Accepting.{good_iff_text}
 use Rattle.headers.proofs.Sizes.{text_all}
 use Rattle.headers.proofs.Seeing.{same_part_lem}
 use Rattle.naming.specs.Naming.{home_from, home_of}
-use Rattle.naming.specs.declared.Home.TheVariants.{Stands, Nowhere}
 use Rattle.naming.proofs.HomeLaws.{home_stands}
 
 -- a name line, of inputs or of outputs, has n names, and these
@@ -64,29 +64,29 @@ text_name_lines lay n ls t =
 
 -- ---- the line that is found
 
--- the line from a to e of a text of n columns: it is the `.ilb` line, has n good names, and every name line of the text has them
-pub record NamedText (t : List ℕ) (n a e : ℕ) : Type 0 where
-  pub ordered : a ≤ e
-  pub inside : e ≤ length t
-  pub line : line_of (between a e t) ≡ Named Ins n
-  pub good : good_names (names_in (between a e t)) ≡ true
-  pub many : length (names_in (between a e t)) ≡ n
-  pub every : All (NameLine n (names_in (between a e t))) (lines_of t)
+-- the line p of a text of n columns: it is the `.ilb` line, has n good names, and every name line of the text has them
+pub record NamedText (t : List ℕ) (n : ℕ) (p : Span) : Type 0 where
+  pub ordered : p.from ≤ p.to
+  pub inside : p.to ≤ length t
+  pub line : line_of (bytes_of p t) ≡ Named Ins n
+  pub good : good_names (names_in (bytes_of p t)) ≡ true
+  pub many : length (names_in (bytes_of p t)) ≡ n
+  pub every : All (NameLine n (names_in (bytes_of p t))) (lines_of t)
 
-module _ (lay : Layout) (t : List ℕ) (n a e : ℕ) (x : Accepted lay n t) (h : home_of t ≡ Stands a e) where
-  found_line : (line_of (between a e t) ≡ Named Ins n) × (names_in (between a e t) ≡ x.names)
+module _ (lay : Layout) (t : List ℕ) (n : ℕ) (p : Span) (x : Accepted lay n t) (h : home_of t ≡ Some p) where
+  found_line : (line_of (bytes_of p t) ≡ Named Ins n) × (names_in (bytes_of p t) ≡ x.names)
   found_line =
-      let s = home_stands t a e h in
+      let s = home_stands t p h in
       all_at (NameLine n x.names) (text_name_lines lay n (lines_of t) x) s.among Ins s.inputs
 
   -- its names are those of the text, as 02 defines them
-  pub names_of_text : names_in (between a e t) ≡ x.names
+  pub names_of_text : names_in (bytes_of p t) ≡ x.names
   names_of_text = found_line.1
 
-  pub accepted_named : NamedText t n a e
+  pub accepted_named : NamedText t n p
   accepted_named =
-      let s = home_stands t a e h in
-      let ok : NamesOk (Named Ins n) (names_in (between a e t)) = rw found_line.0 at (names_ok (between a e t)) in
+      let s = home_stands t p h in
+      let ok : NamesOk (Named Ins n) (names_in (bytes_of p t)) = rw found_line.0 at (names_ok (bytes_of p t)) in
       record {
         ordered = s.ordered;
         inside = s.inside;
@@ -108,20 +108,20 @@ header_aside lay n r ns (Row m) own h = absurd h
 header_aside lay n r ns End own h = absurd h
 header_aside lay n r ns Fault own h = absurd h
 
-nowhere_top : (lay : Layout) (n r : ℕ) (ns : List (List ℕ)) (at : ℕ) (top others : List (List ℕ)) → All (HeaderLine lay n r ns) top → home_from at (top ++ others) ≡ Nowhere
+nowhere_top : (lay : Layout) (n r : ℕ) (ns : List (List ℕ)) (at : ℕ) (top others : List (List ℕ)) → All (HeaderLine lay n r ns) top → home_from at (top ++ others) ≡ None
     → times (Names Ins) top ≡ 0
 unfolding home_from times
 nowhere_top lay n r ns at [] others a h = refl
 nowhere_top lay n r ns at (l ∷ top) others a h =
     go (is_header (Names Ins) (line_of l)) (rw (header_aside lay n r ns (line_of l) (names_in l) a.0) at h) (λ k. nowhere_top lay n r ns (at + length l + 1) top others a.1 k)
   where
-    go : (b : Bool) → cond b (Stands at (at + length l)) (home_from (at + length l + 1) (top ++ others)) ≡ Nowhere
-        → (home_from (at + length l + 1) (top ++ others) ≡ Nowhere → times (Names Ins) top ≡ 0) → one b + times (Names Ins) top ≡ 0
+    go : (b : Bool) → cond b (Some (record { from = at; to = at + length l })) (home_from (at + length l + 1) (top ++ others)) ≡ None
+        → (home_from (at + length l + 1) (top ++ others) ≡ None → times (Names Ins) top ≡ 0) → one b + times (Names Ins) top ≡ 0
     go true k more = absurd (let z : ◌≡◌ {A = ℕ} 0 1 = cc in omega arith)
     go false k more = omega (arith, more k)
 
 -- where no `.ilb` line is found, the text has no name lines at all
-pub nowhere_nameless : (lay : Layout) (t : List ℕ) (n : ℕ) (x : Accepted lay n t) → home_of t ≡ Nowhere → (p : Part) → times (Names p) x.top ≡ 0
+pub nowhere_nameless : (lay : Layout) (t : List ℕ) (n : ℕ) (x : Accepted lay n t) → home_of t ≡ None → (p : Part) → times (Names p) x.top ≡ 0
 unfolding home_of
 nowhere_nameless lay t n x h p =
     both p (nowhere_top lay n (rows_in x.middle) x.names 0 x.top (x.middle ++ x.mark ∷ x.rest) x.headers (ap (home_from 0) (sym x.lines) ∙ h))
@@ -133,5 +133,5 @@ nowhere_nameless lay t n x h p =
 -- ---- by the verdict
 
 -- a good text with an `.ilb` line
-pub good_named : (lay : Layout) (t : List ℕ) (n a e : ℕ) → judge_of lay t ≡ Ok n → home_of t ≡ Stands a e → NamedText t n a e
-good_named lay t n a e g h = accepted_named lay t n a e ((good_iff_text lay t n).0 g) h
+pub good_named : (lay : Layout) (t : List ℕ) (n : ℕ) (p : Span) → judge_of lay t ≡ Ok n → home_of t ≡ Some p → NamedText t n p
+good_named lay t n p g h = accepted_named lay t n p ((good_iff_text lay t n).0 g) h

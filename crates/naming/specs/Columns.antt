@@ -1,9 +1,9 @@
 -- The names of all columns of a sheet: each is looked up, and they stand there only together.
-use Rattle.std.specs.Prelude.{ℕ, zero, suc, List, [], ◌∷◌, ◌++◌, Bool, true, false, cond, leb}
-use Rattle.names.specs.Spans.{between}
+use Rattle.std.specs.Prelude.{ℕ, zero, suc, List, [], ◌∷◌, ◌++◌, Bool, true, false, cond, leb, Option, Some, None}
+use Rattle.names.specs.Spans.{bytes_of}
 use Rattle.naming.specs.Naming.{source_of, name_of}
+use Rattle.naming.specs.declared.NameLine.{NameLine}
 use Rattle.naming.specs.declared.Source.{Source}
-use Rattle.naming.specs.declared.Source.TheVariants.{Panel, Maker, Neither}
 
 -- the names of the columns 0 to n - 1, looked up one by one
 unfoldable pub column_names : List ℕ → List ℕ → ℕ → List (List ℕ)
@@ -22,15 +22,14 @@ names_for panel maker n = cond (all_named (column_names panel maker n)) (column_
 
 -- ---- as the code finds them
 
--- the name line from a to e of a text of m columns, if it names every column below n
-abbrev pub line_in : List ℕ → ℕ → ℕ → ℕ → ℕ → List ℕ
-line_in t m a e n = cond (leb n m) (between a e t) []
+-- the name line of a text, if it names every column below n
+abbrev pub line_in : List ℕ → NameLine → ℕ → List ℕ
+line_in t l n = cond (leb n l.columns) (bytes_of l.at t) []
 
 -- by the name line that two texts give
-abbrev pub line_for : Source → List ℕ → List ℕ → ℕ → List ℕ
-line_for (Panel m a e) panel maker n = line_in panel m a e n
-line_for (Maker m a e) panel maker n = line_in maker m a e n
-line_for Neither panel maker n = []
+abbrev pub line_for : Option Source → List ℕ → List ℕ → ℕ → List ℕ
+line_for (Some s) panel maker n = line_in (cond s.maker maker panel) s.names n
+line_for None panel maker n = []
 
 -- the name line of two texts, if it names every column below n
 unfoldable pub name_line : List ℕ → List ℕ → ℕ → List ℕ

@@ -1,9 +1,9 @@
 -- The name of a column: which part of which of two texts it is.
-use Rattle.std.specs.Prelude.{ℕ, ◌+◌, ◌-◌, ◌≤◌, ◌≡◌, List, [], ◌∷◌, Bool, true, false, cond, ltb, length, take, drop, Ok, Err}
+use Rattle.std.specs.Prelude.{ℕ, ◌+◌, ◌-◌, ◌≤◌, ◌≡◌, List, [], ◌∷◌, Bool, true, false, cond, ltb, length, take, drop, Option, Some, None, Ok, Err}
 use Rattle.std.specs.Borrow.{Bor}
 use Rattle.fields.specs.Texts.{lines_of}
 use Rattle.fields.specs.declared.Span.{Span}
-use Rattle.names.specs.Spans.{between, name_span}
+use Rattle.names.specs.Spans.{bytes_of, name_span}
 use Rattle.lines.specs.Lines.{line_of, view_of}
 use Rattle.lines.specs.declared.Part.TheVariants.{Ins}
 use Rattle.headers.specs.Layouts.{recording, sheet}
@@ -12,25 +12,23 @@ use Rattle.headers.specs.Verdicts.{judge_of}
 use Rattle.headers.specs.Places.{is_aside}
 use Rattle.headers.specs.declared.Header.TheVariants.{Names}
 use Rattle.headers.specs.Verdicts.{Verdict}
-use Rattle.naming.specs.declared.Home.{Home}
-use Rattle.naming.specs.declared.Home.TheVariants.{Stands, Nowhere}
+use Rattle.naming.specs.declared.NameLine.{NameLine}
 use Rattle.naming.specs.declared.Naming.{Naming}
 use Rattle.naming.specs.declared.Naming.TheVariants.{Refused, Nameless, Named}
 use Rattle.naming.specs.declared.Source.{Source}
-use Rattle.naming.specs.declared.Source.TheVariants.{Panel, Maker, Neither}
 use Rattle.naming.specs.declared.Spot.{Spot}
 
 -- ---- one text
 
 -- where the `.ilb` line of some lines stands, before the first row and the end mark; the first line starts at a place
-unfoldable pub home_from : ℕ → List (List ℕ) → Home
-home_from at [] = Nowhere
+unfoldable pub home_from : ℕ → List (List ℕ) → Option Span
+home_from at [] = None
 home_from at (l ∷ ls) =
-    cond (is_header (Names Ins) (line_of l)) (Stands at (at + length l))
-    (cond (is_aside (view_of (line_of l))) (home_from (at + length l + 1) ls) Nowhere)
+    cond (is_header (Names Ins) (line_of l)) (Some (record { from = at; to = at + length l }))
+    (cond (is_aside (view_of (line_of l))) (home_from (at + length l + 1) ls) None)
 
 -- where the `.ilb` line of a text stands
-unfoldable pub home_of : List ℕ → Home
+unfoldable pub home_of : List ℕ → Option Span
 home_of t = home_from 0 (lines_of t)
 
 -- the first verdict, and where that is bad the second
@@ -43,31 +41,31 @@ unfoldable pub judge_either : List ℕ → Verdict
 judge_either t = either_of (judge_of recording t) (judge_of sheet t)
 
 -- by the verdict on a text and its `.ilb` line
-abbrev pub naming_for : Verdict → Home → Naming
+abbrev pub naming_for : Verdict → Option Span → Naming
 naming_for (Err k) h = Refused
-naming_for (Ok n) Nowhere = Nameless
-naming_for (Ok n) (Stands a e) = Named n a e
+naming_for (Ok n) None = Nameless
+naming_for (Ok n) (Some p) = Named (record { columns = n; at = p })
 
--- what a text says of names: both readers refuse it with 11, it has no name lines, or it names n columns in the line from a to e
+-- what a text says of names: both readers refuse it with 11, it has no name lines, or its name line
 unfoldable pub naming_of : List ℕ → Naming
 naming_of t = naming_for (judge_either t) (home_of t)
 
 -- ---- two texts
 
 -- the maker's names, if it has any
-abbrev pub makers_source : Naming → Source
-makers_source Refused = Neither
-makers_source Nameless = Neither
-makers_source (Named n a e) = Maker n a e
+abbrev pub makers_source : Naming → Option Source
+makers_source Refused = None
+makers_source Nameless = None
+makers_source (Named l) = Some (record { maker = true; names = l })
 
 -- the panel's own names; the maker's only where the panel's text has no name lines
-abbrev pub source_for : Naming → Naming → Source
-source_for Refused maker = Neither
+abbrev pub source_for : Naming → Naming → Option Source
+source_for Refused maker = None
 source_for Nameless maker = makers_source maker
-source_for (Named n a e) maker = Panel n a e
+source_for (Named l) maker = Some (record { maker = false; names = l })
 
 -- the name line that two texts give
-unfoldable pub source_of : List ℕ → List ℕ → Source
+unfoldable pub source_of : List ℕ → List ℕ → Option Source
 source_of panel maker = source_for (naming_of panel) (naming_of maker)
 
 -- ---- a column
@@ -80,15 +78,14 @@ no_name = record { maker = false; start = 0; length = 0 }
 abbrev pub spot_at : Bool → ℕ → Span → Spot
 spot_at maker a p = record { maker = maker; start = a + p.from; length = p.to - p.from }
 
--- a column's name in the line from a to e of a text of n columns; none if the column is not below n
-abbrev pub spot_in : Bool → List ℕ → ℕ → ℕ → ℕ → ℕ → Spot
-spot_in maker t n a e column = cond (ltb column n) (spot_at maker a (name_span (between a e t) column)) no_name
+-- a column's name in the name line of a text; none if the text has no such column
+abbrev pub spot_in : Bool → List ℕ → NameLine → ℕ → Spot
+spot_in maker t l column = cond (ltb column l.columns) (spot_at maker l.at.from (name_span (bytes_of l.at t) column)) no_name
 
 -- by the name line that two texts give
-abbrev pub spot_for : Source → List ℕ → List ℕ → ℕ → Spot
-spot_for (Panel n a e) panel maker column = spot_in false panel n a e column
-spot_for (Maker n a e) panel maker column = spot_in true maker n a e column
-spot_for Neither panel maker column = no_name
+abbrev pub spot_for : Option Source → List ℕ → List ℕ → ℕ → Spot
+spot_for (Some s) panel maker column = spot_in s.maker (cond s.maker maker panel) s.names column
+spot_for None panel maker column = no_name
 
 -- where the name of a column is looked up: in the panel's text, or in the maker's
 unfoldable pub spot_of : List ℕ → List ℕ → ℕ → Spot

@@ -1,42 +1,54 @@
 // The name of a column: a part of the panel's text, or else of the maker's.
 #![tactic(auto)]
 
-ghost use Rattle.std.specs.Prelude.{◌≡◌, ◌≤◌, length, Ok};
+ghost use Rattle.std.specs.Prelude.{◌≡◌, cond, Some};
+ghost use Rattle.names.specs.Spans.{bytes_of};
 ghost use Rattle.lines.specs.declared.Part.TheVariants.{Ins};
 ghost use Rattle.lines.specs.Lines.{view_of};
-ghost use Rattle.headers.specs.Layouts.{same_part};
 ghost use Rattle.headers.specs.Accepted.{is_header};
 ghost use Rattle.headers.specs.Places.{is_aside};
 ghost use Rattle.headers.specs.declared.Header.TheVariants.{Names};
-ghost use Rattle.naming.specs.Naming.{home_of, judge_either, naming_for, naming_of, makers_source, source_of, no_name, spot_in, spot_of, Within, PartOf};
-ghost use Rattle.naming.specs.Columns.{line_in, name_line};
+ghost use Rattle.naming.specs.Naming.{home_of, judge_either, naming_of, source_of, spot_of, Within, PartOf};
+ghost use Rattle.naming.specs.Columns.{name_line};
 
+use fields::Span;
 use lines::{Line, Part, View};
 
-// Where the `.ilb` line of a text stands.
+// The `.ilb` line of a text: how many columns the text has, and where the line stands in it.
 #[derive(Clone, Copy)]
-pub enum Home {
-    Stands(usize, usize),
-    Nowhere,
+pub struct NameLine {
+    pub columns: u32,
+    pub at: Span,
 }
 
-// What a text says of names: both readers refuse it with 11, it has no name lines, or it names so many columns in the line between two places.
+// What a text says of names: both readers refuse it with 11, it has no name lines, or its name line.
 #[derive(Clone, Copy)]
 pub enum Naming {
     Refused,
     Nameless,
-    Named(u32, usize, usize),
+    Named(NameLine),
 }
 
-// The name line that two texts give: the panel's, the maker's, or neither.
+// The name line that two texts give, the panel's or the maker's.
 #[derive(Clone, Copy)]
-pub enum Source {
-    Panel(u32, usize, usize),
-    Maker(u32, usize, usize),
-    Neither,
+pub struct Source {
+    pub maker: bool,
+    pub names: NameLine,
 }
 
-// A part of the panel's text or of the maker's.
+impl Source {
+    // The bytes of the line, in the text that it stands in.
+    fn line<'a>(self, panel: &'a [u8], maker: &'a [u8]) -> &'a [u8]
+        requires { source_of panel.now maker.now ≡ Some self }
+        ensures { result.now ≡ bytes_of self.names.at (cond self.maker maker.now panel.now) }
+    {
+        let text = if self.maker { maker } else { panel };
+        &text[self.names.at.from..self.names.at.to]
+    }
+}
+
+// A part of the panel's text or of the maker's. A name that is not there is the empty part at the start of the panel's text, and no `None`:
+// `Contract (find_name ..)` (public/specs/PublicCalls) and the three numbers of C hold it.
 #[derive(Clone, Copy)]
 pub struct Spot {
     pub maker: bool,
@@ -44,44 +56,22 @@ pub struct Spot {
     pub length: usize,
 }
 
-fn is_inputs(p: Part) -> bool
-    ensures { result ≡ same_part Ins p }
-{
-    match p {
-        Part::Ins => true,
-        Part::Outs => false,
-    }
-}
-
 // Whether a line is the `.ilb` line.
 fn names_inputs(l: Line) -> bool
     ensures { result ≡ is_header (Names Ins) l }
 {
-    match l {
-        Line::Empty => false,
-        Line::Sized(_, _) => false,
-        Line::Named(p, _) => is_inputs(p),
-        Line::Typed(_) => false,
-        Line::Rows(_) => false,
-        Line::Row(_) => false,
-        Line::End => false,
-        Line::Fault => false,
-    }
+    matches!(l, Line::Named(Part::Ins, _))
 }
 
 // Whether a line is neither a row nor the end mark.
 fn is_aside(l: Line) -> bool
     ensures { result ≡ is_aside (view_of l) }
 {
-    let v = lines::view_of(l);
-    match v {
-        View::Cells(_) => false,
-        View::EndMark => false,
-        View::Aside => true,
-    }
+    matches!(lines::view_of(l), View::Aside)
 }
 
-fn find_home(text: &[u8]) -> Home
+// Where the `.ilb` line of a text stands.
+fn find_home(text: &[u8]) -> Option<Span>
     ensures { result ≡ home_of text.now }
 {
     let mut at = 0;
@@ -89,104 +79,77 @@ fn find_home(text: &[u8]) -> Home
         let e = fields::line_end(text, at);
         let l = lines::scan_line(&text[at..e]);
         if names_inputs(l) {
-            return Home::Stands(at, e);
+            return Some(Span { from: at, to: e });
         }
         if !is_aside(l) {
-            return Home::Nowhere; // name lines stand before the first row
+            return None; // name lines stand before the first row
         }
         at = fields::past(e, text.len());
     }
-    Home::Nowhere
-}
-
-fn named_by(n: u32, h: Home) -> Naming
-    ensures { result ≡ naming_for (Ok n) h }
-{
-    match h {
-        Home::Stands(a, e) => Naming::Named(n, a, e),
-        Home::Nowhere => Naming::Nameless,
-    }
+    None
 }
 
 // The verdict on a text of either kind.
+#[tactic(auto, unfolding(crate::specs::Naming::judge_either))]
 fn judge_either(text: &[u8]) -> Result<u32, usize>
     ensures { result ≡ judge_either text.now }
 {
-    let v = judging::judge(judging::recording_layout(), text);
-    match v {
-        Ok(n) => Ok(n),
-        Err(_) => judging::judge(judging::sheet_layout(), text),
-    }
+    judging::judge(judging::recording_layout(), text).or_else(|_| judging::judge(
+        judging::sheet_layout(),
+        text,
+    ))
 }
 
+#[tactic(auto, unfolding(crate::specs::Naming::naming_of))]
 fn naming_of(text: &[u8]) -> Naming
     ensures { result ≡ naming_of text.now }
 {
-    let v = judge_either(text);
-    match v {
-        Ok(n) => named_by(n, find_home(text)),
-        Err(_) => Naming::Refused,
-    }
-}
-
-fn makers_source(w: Naming) -> Source
-    ensures { result ≡ makers_source w }
-{
-    match w {
-        Naming::Refused => Source::Neither,
-        Naming::Nameless => Source::Neither,
-        Naming::Named(n, a, e) => Source::Maker(n, a, e),
+    let Ok(columns) = judge_either(text) else {
+        return Naming::Refused;
+    };
+    match find_home(text) {
+        Some(at) => Naming::Named(NameLine { columns, at }),
+        None => Naming::Nameless,
     }
 }
 
 // The maker's text is read only where the panel's has no name lines.
-fn source_of(panel: &[u8], maker: &[u8]) -> Source
+#[tactic(auto, unfolding(crate::specs::Naming::source_of))]
+fn source_of(panel: &[u8], maker: &[u8]) -> Option<Source>
     ensures { result ≡ source_of panel.now maker.now }
 {
-    let w = naming_of(panel);
-    match w {
-        Naming::Refused => Source::Neither,
-        Naming::Nameless => makers_source(naming_of(maker)),
-        Naming::Named(n, a, e) => Source::Panel(n, a, e),
-    }
-}
-
-// The empty part at the start of the panel's text.
-fn no_name() -> Spot
-    ensures { result ≡ no_name }
-{
-    Spot {
-        maker: false,
-        start: 0,
-        length: 0,
-    }
-}
-
-// A column's name in the name line between two places of a text of n columns.
-fn spot_in(maker: bool, text: &[u8], n: u32, a: usize, e: usize, column: usize) -> Spot
-    requires { (a ≤ e) × (e ≤ length text.now) }
-    ensures { result ≡ spot_in maker text.now n a e column }
-{
-    if (n as usize) <= column {
-        return no_name();
-    }
-    let p = names::name_span(&text[a..e], column);
-    Spot {
-        maker,
-        start: a + p.from,
-        length: p.to - p.from,
+    match naming_of(panel) {
+        Naming::Refused => None,
+        Naming::Named(names) => Some(Source {
+            maker: false,
+            names,
+        }),
+        Naming::Nameless => match naming_of(maker) {
+            Naming::Named(names) => Some(Source { maker: true, names }),
+            _ => None,
+        },
     }
 }
 
 // Where the name of a column stands.
+#[tactic(auto, unfolding(crate::specs::Naming::spot_of), using(crate::proofs::SourceLaws::spot_within))]
 pub fn find(panel: &[u8], maker: &[u8], column: usize) -> Spot
     ensures { (result ≡ spot_of panel.now maker.now column) × Within panel.now maker.now result }
 {
-    let s = source_of(panel, maker);
-    match s {
-        Source::Panel(n, a, e) => spot_in(false, panel, n, a, e, column),
-        Source::Maker(n, a, e) => spot_in(true, maker, n, a, e, column),
-        Source::Neither => no_name(),
+    match source_of(panel, maker) {
+        Some(s) if column < s.names.columns as usize => {
+            let name = names::name_span(s.line(panel, maker), column);
+            Spot {
+                maker: s.maker,
+                start: s.names.at.from + name.from,
+                length: name.to - name.from,
+            }
+        }
+        _ => Spot {
+            maker: false,
+            start: 0,
+            length: 0,
+        },
     }
 }
 
@@ -195,33 +158,17 @@ pub fn lookup<'a>(panel: &'a [u8], maker: &'a [u8], column: usize) -> &'a [u8]
     ensures { PartOf panel.entry maker.entry (spot_of panel.now maker.now column) result.now result.ref_ptr.0 result.ref_ptr.1 }
 {
     let s = find(panel, maker, column);
-    let from = s.start;
-    let to = s.start + s.length;
-    if s.maker {
-        return &maker[from..to];
-    }
-    &panel[from..to]
-}
-
-// The name line between two places of a text of m columns, if it names every column below n; else nothing.
-fn line_in<'a>(text: &'a [u8], m: u32, a: usize, e: usize, n: u32) -> &'a [u8]
-    requires { (a ≤ e) × (e ≤ length text.now) }
-    ensures { result.now ≡ line_in text.now m a e n }
-{
-    if n <= m {
-        return &text[a..e];
-    }
-    &text[..0]
+    let text = if s.maker { maker } else { panel };
+    &text[s.start..s.start + s.length]
 }
 
 // The name line that two texts give, if it names every column below n; else nothing.
+#[tactic(auto, unfolding(crate::specs::Columns::name_line))]
 pub fn name_line<'a>(panel: &'a [u8], maker: &'a [u8], n: u32) -> &'a [u8]
     ensures { result.now ≡ name_line panel.now maker.now n }
 {
-    let s = source_of(panel, maker);
-    match s {
-        Source::Panel(m, a, e) => line_in(panel, m, a, e, n),
-        Source::Maker(m, a, e) => line_in(maker, m, a, e, n),
-        Source::Neither => &panel[..0],
+    match source_of(panel, maker) {
+        Some(s) if n <= s.names.columns => s.line(panel, maker),
+        _ => &[],
     }
 }
