@@ -6,7 +6,10 @@ use Prim.Native.Nat.{ℕ, zero, suc, ◌<◌}
 use native.Mathlib.Omega.{arith}
 use lib.Dec.{leb, ltb}
 use lib.ListN.{get_or}
-use borrow.Author.Tests.{le-ltb, leb-false}
+use Rattle.std.specs.Prelude.{Result, Ok, Err, OkIff}
+use Rattle.std.specs.Result.{result_unwrap_or}
+use borrow.Author.Tests.{le-ltb, leb-false, le-leb, lt-leb}
+use Rattle.std.proofs.Math.Nat.{lt_of_not-le}
 use Rattle.panel.specs.Masks.{panel_size}
 use Rattle.answers.specs.Answers.{plain, if_done}
 use Rattle.answers.specs.declared.Answer.{Answer}
@@ -31,6 +34,12 @@ narrowed_same k p = simp p
 narrowed_large : (k : ℕ) → leb k 4294967295 ≡ false → 10 < narrowed k
 unfolding narrowed
 narrowed_large k p = simp p (omega arith)
+
+-- what `try_from` and `unwrap_or` make of a number of 64 bits
+pub narrowed_tried : {E : Type 0} (x : ℕ) (r : Result ℕ E) → OkIff r (x < 4294967296) x → result_unwrap_or r 4294967295 ≡ narrowed x
+unfolding narrowed
+narrowed_tried x (Ok y) h = h.1 ∙ sym (narrowed_same x (le-leb x 4294967295 (omega (arith, h.0))))
+narrowed_tried x (Err e) h = simp (lt-leb x 4294967295 (let g : 4294967296 < suc x = lt_of_not-le h in omega (arith, g)))
 
 -- take leaves n as it is
 n_stays : (s : Session) (book sheet : List ℕ) (i j : ℕ) → (session_taken s book sheet i j).n ≡ s.n

@@ -15,35 +15,32 @@ use sessions::Session;
 fn narrow(x: usize) -> u32
     ensures { result ≡ narrowed x }
 {
-    if x <= 4294967295 {
-        return x as u32;
-    }
-    4294967295
+    u32::try_from(x).unwrap_or(u32::MAX)
 }
+
+// C lends an array for each kind of answer, so each kind has its `put`.
 
 // The six numbers of an answer.
 fn put_answer(a: Answer, out: &mut [usize; 6]) -> u32
     ensures { (out.new ≡ numbers a) × (result ≡ a.code) }
 {
-    let code = a.code;
     *out = [
-        code as usize,
+        a.code as usize,
         a.place,
         a.book_count,
         a.sheet_count,
         a.struck,
         a.added,
     ];
-    code
+    a.code
 }
 
 // The six numbers of an answer, and one more.
 fn put_with(a: Answer, more: usize, out: &mut [usize; 7]) -> u32
     ensures { (out.new ≡ numbers_with a (more ∷ [])) × (result ≡ a.code) }
 {
-    let code = a.code;
     *out = [
-        code as usize,
+        a.code as usize,
         a.place,
         a.book_count,
         a.sheet_count,
@@ -51,32 +48,24 @@ fn put_with(a: Answer, more: usize, out: &mut [usize; 7]) -> u32
         a.added,
         more,
     ];
-    code
+    a.code
 }
 
 // The four numbers of reading.
 fn put_read(a: ReadAnswer, out: &mut [usize; 4]) -> u32
     ensures { (out.new ≡ read_numbers a) × (result ≡ a.code) }
 {
-    let code = a.code;
-    *out = [code as usize, a.place, a.n as usize, a.count];
-    code
-}
-
-// 0 for the panel's text, 1 for the maker's.
-fn text_number(maker: bool) -> usize
-    ensures { result ≡ cond maker 1 0 }
-{
-    if maker { 1 } else { 0 }
+    *out = [a.code as usize, a.place, a.n as usize, a.count];
+    a.code
 }
 
 // The three numbers of a name.
 fn put_spot(s: Spot, out: &mut [usize; 3]) -> usize
     ensures { (out.new ≡ spot_numbers s) × (result ≡ s.length) }
 {
-    let length = s.length;
-    *out = [text_number(s.maker), s.start, length];
-    length
+    // 0 for the panel's text, 1 for the maker's.
+    *out = [usize::from(s.maker), s.start, s.length];
+    s.length
 }
 
 // The five numbers of a session, the first as given.
