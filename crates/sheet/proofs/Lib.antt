@@ -1,5 +1,6 @@
 pub mod Stretch
 pub mod Planting
 pub mod Sweeping
+pub mod Sweeps
 pub mod Tallying
 pub mod Fresh

@@ -1,11 +1,11 @@
--- Take in place, in two sweeps from the end of the table to its front: what holds on the way, and the new sheet at the end.
+-- Take in place, from the end of the table to its front and twice over: what holds on the way, and the new sheet at the end.
 use mathlib.Core.Path.{◌≡◌, refl, sym, ap, ◌∙◌, subst}
 use mathlib.Core.Logic.{◌⊎◌, inl, inr}
 use mathlib.Core.Bool.{Bool, true, false, not, ◌||◌, false≢true, cond}
 use mathlib.Core.List.Memᴰ
 use mathlib.Core.List.{List, ◌++◌, Memᴰ as Mem}
 use Prim.Native.Nat.{ℕ, zero, suc, ◌+◌, ◌-◌, ◌≤◌, ◌<◌}
-use native.Mathlib.Nat.{le_refl}
+use native.Mathlib.Nat.{not-suc-le-zero, le_refl}
 use native.Mathlib.Omega.{arith}
 use lib.ListN.{length, take, drop, get_or, drop_of_length-le}
 use lib.Seq.{length-take-le, get_or-take, drop-cons, drop-append_seam}
@@ -29,24 +29,44 @@ use Rattle.heirs.proofs.Take.{Heir, heir_i}
 use Rattle.heirs.proofs.Steps.{heirs_of_e}
 use Rattle.heirs.proofs.InPlace.{Progress, heir_spared, progress_start, progress_end, progress_step, heir_b, first_heirs_in_order, heirs_of_part, weight_step, weight_start, table_fits}
 use Rattle.heirs.proofs.Judging.{picked_heirs, picked_first, mask_none, mask_some}
-use Rattle.sheet.specs.Taking.{stays, planted, visited, swept, Plantable, Visitable, Sweepable}
+use Rattle.sheet.specs.Taking.{stays, planted, visited, Plantable, Visitable}
 use Rattle.sheet.proofs.Planting.{stays_def}
 
 -- ---- the invariant
 
 -- the rule r is done with: it is spared, or in the first sweep has an heir
-pub record Settled (n t : ℕ) (s : List ℕ) (all : Bool) (r : ℕ) : Type 0 where
-  pub or_fertile : (spared t r ≡ true → ⊥) → (all ≡ false) × (1 ≤ length (heirs_of n (filter (spared t) s) t r))
+pub record Settled (n t : ℕ) (s : List ℕ) (phase r : ℕ) : Type 0 where
+  pub or_fertile : (spared t r ≡ true → ⊥) → (phase ≡ 0) × (1 ≤ length (heirs_of n (filter (spared t) s) t r))
 
--- the rules of the table from the place i on are done with; s is the sheet at the start
-pub record Sweeping (n t : ℕ) (s : List ℕ) (room : ℕ) (all : Bool) (i : ℕ) (tab : List ℕ) : Type 0 where
-  pub fits : length tab ≤ room
-  pub below : i ≤ length tab
-  pub progress : Progress n s t tab
-  pub total : sum (weight n s t) tab ≡ length (take_sheet n s t)
+-- the rules from the place i on are done with; s is the sheet at the start, the table the first `have` words of cur
+pub record Sweeping (n t : ℕ) (s : List ℕ) (len : ℕ) (cur : List ℕ) (have i phase : ℕ) : Type 0 where
+  pub fits : have ≤ length cur
+  pub same : length cur ≡ len
+  pub below : i ≤ have
+  pub phases : phase ≤ 2
+  pub progress : Progress n s t (take have cur)
+  pub total : sum (weight n s t) (take have cur) ≡ length (take_sheet n s t)
   -- in the second sweep each hit rule has an heir
-  pub fertile : all ≡ true → (r : ℕ) → Mem r tab → (spared t r ≡ true → ⊥) → 1 ≤ length (heirs_of n (filter (spared t) s) t r)
-  pub behind : (r : ℕ) → Mem r (drop i tab) → Settled n t s all r
+  pub fertile : 1 ≤ phase → (r : ℕ) → Mem r (take have cur) → (spared t r ≡ true → ⊥) → 1 ≤ length (heirs_of n (filter (spared t) s) t r)
+  -- after it none is left
+  pub clear : 2 ≤ phase → (r : ℕ) → Mem r (take have cur) → spared t r ≡ true
+  pub behind : (r : ℕ) → Mem r (drop i (take have cur)) → Settled n t s phase r
+
+-- what is left to do: the rules in front of i, and all of the table for each sweep to come
+pub ahead : ℕ → ℕ → ℕ → ℕ
+ahead len zero i = i + (len + 2)
+ahead len (suc zero) i = i + 1
+ahead len (suc (suc p)) i = 0
+
+pub positive : (i : ℕ) → (i ≡ 0 → ⊥) → 0 < i
+positive zero f = absurd (f refl)
+positive (suc i) f = omega arith
+
+pub ahead_visit : (len i phase : ℕ) → phase < 2 → 0 < i → ahead len phase (i - 1) < ahead len phase i
+unfolding ahead
+ahead_visit len i zero p l = omega arith
+ahead_visit len i (suc zero) p l = omega arith
+ahead_visit len i (suc (suc k)) p l = absurd (omega arith)
 
 -- ---- whether a rule stays
 
@@ -69,61 +89,11 @@ stays_yes all n t b tab e f = go (spared t b) refl all refl (eqb (heir_mask n t 
     go false p false q true r h = absurd (false≢true h)
     go false p false q false r h = (q, eqb-false (heir_mask n t b tab) 0 r)
 
--- ---- the loop of a sweep
-
--- the rules in front of the place i are still to be visited, and then the table is `goal`
-pub record Visiting (all : Bool) (n t room : ℕ) (goal cur : List ℕ) (have i : ℕ) : Type 0 where
-  pub fits : have ≤ length cur
-  pub same : length cur ≡ room
-  pub can : Sweepable all n t room i (take have cur)
-  pub will : swept all n t i (take have cur) ≡ goal
-
-module _ (all : Bool) (n t : ℕ) where
-  pub visiting_start : (cur : List ℕ) (have : ℕ) → have ≤ length cur → Sweepable all n t (length cur) have (take have cur)
-      → Visiting all n t (length cur) (swept all n t have (take have cur)) cur have have
-  visiting_start cur have l c = record { fits = l; same = refl; can = c; will = refl }
-
-  module _ (room : ℕ) (goal cur : List ℕ) (have i : ℕ) (k : Visiting all n t room goal cur have i) (l : 0 < i) where
-    last : i ≡ suc (i - 1)
-    last = omega arith
-
-    can_now : Sweepable all n t room (suc (i - 1)) (take have cur)
-    can_now = subst (λ (j : ℕ). Sweepable all n t room j (take have cur)) last k.can
-
-    pub visiting_can : Visitable all n t cur have (i - 1)
-    unfolding Sweepable
-    visiting_can = can_now.0 cur have (record { is = refl; fits = k.fits; same = k.same })
-
-    pub visiting_more : (z : List ℕ) (r : ℕ) → Holds z r (length cur) (visited all n t (get_or cur (i - 1) 0) (take have cur))
-        → Visiting all n t room goal z r (i - 1)
-    unfolding Sweepable swept
-    visiting_more z r h =
-        let e : take r z ≡ visited all n t (get_or (take have cur) (i - 1) 0) (take have cur) =
-        h.is ∙ ap (λ (b : ℕ). visited all n t b (take have cur)) (sym (get_or-take have cur (i - 1) 0 visiting_can.inside)) in
-        record {
-          fits = h.fits;
-          same = h.same ∙ k.same;
-          can = rw e can_now.1;
-          will = ap (swept all n t (i - 1)) e ∙ ap (λ (j : ℕ). swept all n t j (take have cur)) (sym last) ∙ k.will;
-        }
-
-  pub visiting_end : (room : ℕ) (goal cur : List ℕ) (have i : ℕ) → Visiting all n t room goal cur have i → i ≤ 0 → Holds cur have room goal
-  unfolding swept
-  visiting_end room goal cur have i k l =
-      let none : 0 ≡ i = omega arith in
-      record { is = ap (λ (j : ℕ). swept all n t j (take have cur)) none ∙ k.will; fits = k.fits; same = k.same }
-
 -- ---- the table on its way
 
-none_behind : (tab : List ℕ) (i r : ℕ) → length tab ≤ i → Mem r (drop i tab) → ⊥
-none_behind tab i r l m = Memᴰ.not-nil (subst (λ (z : List ℕ). Mem r z) (drop_of_length-le tab {i = i} l) m)
-
-module _ (n : ℕ) (small : n ≤ 10) (t : ℕ) (s : List ℕ) (good : good_sheet n s ≡ true) (room : ℕ) (roomy : length (take_sheet n s t) ≤ room) where
+module _ (n : ℕ) (small : n ≤ 10) (t : ℕ) (s : List ℕ) (good : good_sheet n s ≡ true) where
   g : Good n s
   g = good_e n s good
-
-  abbrev keep : List ℕ
-  keep = filter (spared t) s
 
   -- every rule of a table on its way is a rule of the panel
   table_rule : (tab : List ℕ) → Progress n s t tab → (r : ℕ) → Mem r tab → Rule n r
@@ -133,44 +103,78 @@ module _ (n : ℕ) (small : n ≤ 10) (t : ℕ) (s : List ℕ) (good : good_shee
       go (inl k) = g.valid r k
       go (inr w) = (take_good n small s t).valid r (heir_i n small s g t r w)
 
-  sweeping_start : (i : ℕ) → i ≡ length s → i ≤ room → Sweeping n t s room false i s
-  sweeping_start i e l = record {
-    fits = omega arith;
-    below = omega arith;
-    progress = progress_start n small s g t;
-    total = weight_start n small s g t;
-    fertile = λ h. absurd (false≢true h);
-    behind = λ r m. absurd (none_behind s i r (omega arith) m);
+  pub sweeping_start : (cur : List ℕ) (have : ℕ) → have ≤ length cur → take have cur ≡ s → Sweeping n t s (length cur) cur have have 0
+  sweeping_start cur have l e = record {
+    fits = l;
+    same = refl;
+    below = le_refl have;
+    phases = omega arith;
+    progress = subst (λ (z : List ℕ). Progress n s t z) (sym e) (progress_start n small s g t);
+    total = ap (sum (weight n s t)) e ∙ weight_start n small s g t;
+    fertile = λ h. absurd (not-suc-le-zero h);
+    clear = λ h. absurd (not-suc-le-zero h);
+    behind = λ r m. absurd (Memᴰ.not-nil (subst (λ (z : List ℕ). Mem r z) (drop_of_length-le (take have cur) {i = have} (omega (arith, length-take-le have cur l))) m));
   }
 
-  sweeping_next : (tab : List ℕ) → Sweeping n t s room false 0 tab → Sweeping n t s room true (length tab) tab
-  sweeping_next tab k = record {
+  pub sweeping_end : (len : ℕ) (cur : List ℕ) (have i phase : ℕ) → Sweeping n t s len cur have i phase → 2 ≤ phase → Holds cur have len (take_sheet n s t)
+  sweeping_end len cur have i phase k h = record {
+    is = progress_end n small s g t (take have cur) k.progress (k.clear h);
     fits = k.fits;
-    below = le_refl (length tab);
+    same = k.same;
+  }
+
+  -- ---- a sweep is over
+
+  pub sweeping_phase : (len : ℕ) (cur : List ℕ) (have i phase : ℕ) → Sweeping n t s len cur have i phase → i ≡ 0 → phase < 2
+      → Sweeping n t s len cur have have (phase + 1)
+  sweeping_phase len cur have i phase k z l = record {
+    fits = k.fits;
+    same = k.same;
+    below = le_refl have;
+    phases = omega arith;
     progress = k.progress;
     total = k.total;
-    fertile = λ h r m f. ((k.behind r m).or_fertile f).1;
-    behind = λ r m. absurd (none_behind tab (length tab) r (le_refl (length tab)) m);
+    fertile = λ h r m f. ((done r m).or_fertile f).1;
+    clear = λ h r m. spared_now (omega arith) r m (either (spared t r));
+    behind = λ r m. absurd (Memᴰ.not-nil (subst (λ (y : List ℕ). Mem r y) (drop_of_length-le (take have cur) {i = have} (omega (arith, length-take-le have cur k.fits))) m));
   }
-
-  sweeping_end : (tab : List ℕ) → Sweeping n t s room true 0 tab → tab ≡ take_sheet n s t
-  sweeping_end tab k = progress_end n small s g t tab k.progress (λ r m. now r m (either (spared t r)))
     where
-      now : (r : ℕ) → Mem r tab → (spared t r ≡ true) ⊎ (spared t r ≡ true → ⊥) → spared t r ≡ true
-      now r m (inl e) = e
-      now r m (inr f) = absurd (false≢true (sym ((k.behind r m).or_fertile f).0))
+      done : (r : ℕ) → Mem r (take have cur) → Settled n t s phase r
+      done r m = k.behind r (subst (λ (j : ℕ). Mem r (drop j (take have cur))) (sym z) m)
+
+      spared_now : 1 ≤ phase → (r : ℕ) → Mem r (take have cur) → (spared t r ≡ true) ⊎ (spared t r ≡ true → ⊥) → spared t r ≡ true
+      spared_now h r m (inl e) = e
+      spared_now h r m (inr f) = absurd (omega (arith, ((done r m).or_fertile f).0))
+
+  pub ahead_phase : (len : ℕ) (cur : List ℕ) (have i phase : ℕ) → Sweeping n t s len cur have i phase → phase < 2 → ahead len (phase + 1) have < ahead len phase i
+  unfolding ahead
+  ahead_phase len cur have i zero k l = omega (arith, k.fits, k.same)
+  ahead_phase len cur have i (suc zero) k l = omega arith
+  ahead_phase len cur have i (suc (suc p)) k l = absurd (omega arith)
 
   -- ---- a visit
 
-  module _ (all : Bool) (i : ℕ) (tab : List ℕ) (k : Sweeping n t s room all (suc i) tab) where
-    abbrev b : ℕ
-    b = get_or tab i 0
+  module _ (len : ℕ) (cur : List ℕ) (have i phase : ℕ) (k : Sweeping n t s len cur have i phase) (lp : phase < 2) (li : 0 < i) where
+    abbrev tab : List ℕ
+    tab = take have cur
 
-    inside : i < length tab
+    abbrev b : ℕ
+    b = get_or cur (i - 1) 0
+
+    abbrev keep : List ℕ
+    keep = filter (spared t) s
+
+    inside : i - 1 < have
     inside = omega (arith, k.below)
 
+    tab_length : length tab ≡ have
+    tab_length = length-take-le have cur k.fits
+
+    b_at : get_or tab (i - 1) 0 ≡ b
+    b_at = get_or-take have cur (i - 1) 0 inside
+
     b_in : Mem b tab
-    b_in = at_in tab i inside
+    b_in = subst (λ (x : ℕ). Mem x tab) b_at (at_in tab (i - 1) (omega (arith, tab_length, inside)))
 
     module _ (f : spared t b ≡ true → ⊥) where
       heirs_now : heirs_in n t b tab ≡ heirs_of n keep t b
@@ -203,137 +207,135 @@ module _ (n : ℕ) (small : n ≤ 10) (t : ℕ) (s : List ℕ) (good : good_shee
       total_after : sum (weight n s t) (replaced n s t tab b) ≡ length (take_sheet n s t)
       total_after = weight_step n small s g t tab k.progress b b_in f ∙ k.total
 
-      room_later : all ≡ true → length (replaced n s t tab b) ≤ room
-      room_later h =
-          omega (arith, table_fits n small s g t (replaced n s t tab b) (λ r q d. k.fertile h r (before r q d) d), total_after, roomy)
+      room_later : 1 ≤ phase → length (take_sheet n s t) ≤ len → length (replaced n s t tab b) ≤ len
+      room_later h room =
+          omega (arith, table_fits n small s g t (replaced n s t tab b) (λ r q d. k.fertile h r (before r q d) d), total_after, room)
 
-      length_after : length (replaced n s t tab b) + 1 ≡ length (heirs_of n keep t b) + length tab
+      room_first : heir_mask n t b tab ≡ 0 → length (replaced n s t tab b) ≤ len
       unfolding replaced
-      length_after =
-          omega (arith, insert_all_length (heirs_of n keep t b) (remove b tab), remove_length b tab k.progress.sorted b_in)
-
-      room_first : heir_mask n t b tab ≡ 0 → length (replaced n s t tab b) ≤ room
       room_first z =
-          omega (arith, length_after, ap length heirs_now, mask_none n t b (heir_mask n t b tab) tab refl z, k.fits)
-
-      room_after : (all || eqb (heir_mask n t b tab) 0) ≡ true → length (replaced n s t tab b) ≤ room
-      room_after q = go all refl q
-        where
-          go : (x : Bool) → all ≡ x → (x || eqb (heir_mask n t b tab) 0) ≡ true → length (replaced n s t tab b) ≤ room
-          go true p q = room_later p
-          go false p q = room_first (eqb-true (heir_mask n t b tab) 0 q)
+          omega (
+            arith,
+            insert_all_length (heirs_of n keep t b) (remove b tab),
+            ap length heirs_now,
+            mask_none n t b (heir_mask n t b tab) tab refl z,
+            remove_length b tab k.progress.sorted b_in,
+            tab_length,
+            k.fits,
+            k.same,
+          )
 
       -- from the place of b on: its heirs, and what stood behind it
-      after : drop i (replaced n s t tab b) ≡ insert_all (heirs_of n keep t b) (drop (suc i) tab)
+      after : drop (i - 1) (replaced n s t tab b) ≡ insert_all (heirs_of n keep t b) (drop i tab)
       unfolding replaced
       after =
-          let r : remove b tab ≡ take i tab ++ drop (suc i) tab = remove_at tab i k.progress.sorted inside in
-          let past : insert_all (heirs_of n keep t b) (take i tab ++ drop (suc i) tab) ≡ take i tab ++ insert_all (heirs_of n keep t b) (drop (suc i) tab) =
-          insert_all_past (heirs_of n keep t b) (take i tab) (drop (suc i) tab) (λ h x mh mx.
+          let lt : i - 1 < length tab = omega (arith, tab_length, inside) in
+          let si : suc (i - 1) ≡ i = omega arith in
+          let r : remove b tab ≡ take (i - 1) tab ++ drop i tab =
+          ap (λ (x : ℕ). remove x tab) (sym b_at) ∙ remove_at tab (i - 1) k.progress.sorted lt ∙ ap (λ (x : ℕ). take (i - 1) tab ++ drop x tab) si in
+          let past : insert_all (heirs_of n keep t b) (take (i - 1) tab ++ drop i tab) ≡ take (i - 1) tab ++ insert_all (heirs_of n keep t b) (drop i tab) =
+          insert_all_past (heirs_of n keep t b) (take (i - 1) tab) (drop i tab) (λ h x mh mx.
           let w = heirs_of_e n keep t b h mh in
-          omega (arith, before_below tab i k.progress.sorted inside x mx, w.is, candidate_above b w.relay (state t))) in
-          let front : length (take i tab) ≡ i = length-take-le i tab (omega (arith, inside)) in
-          ap (λ (l : List ℕ). drop i (insert_all (heirs_of n keep t b) l)) r
-          ∙ ap (drop i) past
-          ∙ ap (λ (x : ℕ). drop x (take i tab ++ insert_all (heirs_of n keep t b) (drop (suc i) tab))) (sym front)
-          ∙ drop-append_seam (take i tab) (insert_all (heirs_of n keep t b) (drop (suc i) tab))
+          omega (arith, before_below tab (i - 1) k.progress.sorted lt x mx, b_at, w.is, candidate_above b w.relay (state t))) in
+          let front : length (take (i - 1) tab) ≡ i - 1 = length-take-le (i - 1) tab (omega (arith, lt)) in
+          ap (λ (l : List ℕ). drop (i - 1) (insert_all (heirs_of n keep t b) l)) r
+          ∙ ap (drop (i - 1)) past
+          ∙ ap (λ (x : ℕ). drop x (take (i - 1) tab ++ insert_all (heirs_of n keep t b) (drop i tab))) (sym front)
+          ∙ drop-append_seam (take (i - 1) tab) (insert_all (heirs_of n keep t b) (drop i tab))
 
-    sweeping_can : (cur : List ℕ) (have : ℕ) → Holds cur have room tab → Visitable all n t cur have i
-    sweeping_can cur have h = record {
+    pub sweeping_can : length (take_sheet n s t) ≤ len → Visitable (eqb phase 1) n t cur have (i - 1)
+    sweeping_can room = record {
       size = small;
-      inside = at;
-      fits = h.fits;
-      sorted = rw h.is k.progress.sorted;
-      rule = rw same (rule_i n b (table_rule tab k.progress b b_in));
-      plants = rw (same, h.is, h.same) (λ e. can (stays_no all n t b tab e).0 (stays_no all n t b tab e).1);
-    }
-      where
-        at : i < have
-        at = omega (arith, inside, length-take-le have cur h.fits, ap length h.is)
-
-        same : get_or cur i 0 ≡ b
-        same = sym (get_or-take have cur i 0 at) ∙ ap (λ (z : List ℕ). get_or z i 0) h.is
-
-        can : (spared t b ≡ true → ⊥) → (all || eqb (heir_mask n t b tab) 0) ≡ true → Plantable n (heir_mask n t b tab) b (state t) (remove b tab) room
-        can f q = record { in_order = first_now f; fits = omega (arith, ap length (planted_in f), room_after f q) }
-
-    sweeping_stay : stays all n t b tab ≡ true → Sweeping n t s room all i tab
-    sweeping_stay st = record {
+      inside = inside;
       fits = k.fits;
-      below = omega (arith, inside);
-      progress = k.progress;
-      total = k.total;
-      fertile = k.fertile;
-      behind = λ x m. settled x (Memᴰ.cases_cons (subst (λ (l : List ℕ). Mem x l) (drop-cons tab i 0 inside) m));
+      sorted = k.progress.sorted;
+      rule = rule_i n b (table_rule tab k.progress b b_in);
+      plants = λ e. can (stays_no (eqb phase 1) n t b tab e).0 (stays_no (eqb phase 1) n t b tab e).1;
     }
       where
-        here_settled : Settled n t s all b
-        here_settled = record {
-          or_fertile = λ f.
-              let y = stays_yes all n t b tab st f in
-              (y.0, omega (arith, mask_some n t b (heir_mask n t b tab) tab refl y.1, ap length (heirs_now f)));
+        length_after : (f : spared t b ≡ true → ⊥) → (x : Bool) → eqb phase 1 ≡ x → (x || eqb (heir_mask n t b tab) 0) ≡ true → length (replaced n s t tab b) ≤ len
+        length_after f true p q = room_later f (omega (arith, eqb-true phase 1 p)) room
+        length_after f false p q = room_first f (eqb-true (heir_mask n t b tab) 0 q)
+
+        can : (spared t b ≡ true → ⊥) → (eqb phase 1 || eqb (heir_mask n t b tab) 0) ≡ true
+            → Plantable n (heir_mask n t b tab) b (state t) (remove b tab) (length cur)
+        can f q = record {
+          in_order = first_now f;
+          fits = omega (arith, ap length (planted_in f), length_after f (eqb phase 1) refl q, k.same);
         }
 
-        settled : (x : ℕ) → (x ≡ b) ⊎ Mem x (drop (suc i) tab) → Settled n t s all x
-        settled x (inl e) = subst (λ (y : ℕ). Settled n t s all y) (sym e) here_settled
-        settled x (inr m) = k.behind x m
+    visited_is : (x : Bool) → stays (eqb phase 1) n t b tab ≡ x → visited (eqb phase 1) n t b tab ≡ cond x tab (planted n (heir_mask n t b tab) b (state t) tab)
+    unfolding visited
+    visited_is x e = ap (λ (y : Bool). cond y tab (planted n (heir_mask n t b tab) b (state t) tab)) e
 
-    sweeping_go : (f : spared t b ≡ true → ⊥) → (all || eqb (heir_mask n t b tab) 0) ≡ true → Sweeping n t s room all i (replaced n s t tab b)
-    unfolding replaced
-    sweeping_go f q = record {
-      fits = room_after f q;
-      below = omega (arith, inside, length_after f);
-      progress = progress_step n small s g t tab k.progress b b_in f;
-      total = total_after f;
-      fertile = λ p x m d. k.fertile p x (before f x m d) d;
-      behind = λ x m. settled x (insert_all_e (heirs_of n keep t b) (drop (suc i) tab) x (subst (λ (l : List ℕ). Mem x l) (after f) m));
+    sweeping_stay : (z : List ℕ) (r : ℕ) → stays (eqb phase 1) n t b tab ≡ true → Holds z r (length cur) tab → Sweeping n t s len z r (i - 1) phase
+    sweeping_stay z r st h = record {
+      fits = h.fits;
+      same = h.same ∙ k.same;
+      below = omega (arith, inside, same_count);
+      phases = k.phases;
+      progress = subst (λ (x : List ℕ). Progress n s t x) (sym h.is) k.progress;
+      total = ap (sum (weight n s t)) h.is ∙ k.total;
+      fertile = λ p x m f. k.fertile p x (subst (λ (l : List ℕ). Mem x l) h.is m) f;
+      clear = λ p. absurd (omega (arith, p));
+      behind = λ x m. settled x (Memᴰ.cases_cons (subst (λ (l : List ℕ). Mem x l) (ap (drop (i - 1)) h.is ∙ drop-cons tab (i - 1) 0 (omega (arith, tab_length, inside))) m));
     }
       where
-        settled : (x : ℕ) → Mem x (heirs_of n keep t b) ⊎ Mem x (drop (suc i) tab) → Settled n t s all x
+        same_count : r ≡ have
+        same_count = sym (length-take-le r z h.fits) ∙ ap length h.is ∙ tab_length
+
+        first_sweep : (all : Bool) → eqb phase 1 ≡ all → all ≡ false → phase ≡ 0
+        first_sweep true e q = absurd (false≢true (sym q))
+        first_sweep false e q = omega (arith, not_one phase (eqb-false phase 1 e) lp)
+          where
+            not_one : (p : ℕ) → (p ≡ 1 → ⊥) → p < 2 → p ≡ 0
+            not_one zero f l = refl
+            not_one (suc zero) f l = absurd (f refl)
+            not_one (suc (suc p)) f l = omega arith
+
+        here_settled : Settled n t s phase b
+        here_settled = record {
+          or_fertile = λ f.
+              let y = stays_yes (eqb phase 1) n t b tab st f in
+              (first_sweep (eqb phase 1) refl y.0, omega (arith, mask_some n t b (heir_mask n t b tab) tab refl y.1, ap length (heirs_now f)));
+        }
+
+        settled : (x : ℕ) → (x ≡ get_or tab (i - 1) 0) ⊎ Mem x (drop (suc (i - 1)) tab) → Settled n t s phase x
+        settled x (inl e) = subst (λ (y : ℕ). Settled n t s phase y) (sym (e ∙ b_at)) here_settled
+        settled x (inr m) = let si : suc (i - 1) ≡ i = omega arith in k.behind x (subst (λ (j : ℕ). Mem x (drop j tab)) si m)
+
+    sweeping_go : (z : List ℕ) (r : ℕ) (f : spared t b ≡ true → ⊥) → Holds z r (length cur) (replaced n s t tab b) → Sweeping n t s len z r (i - 1) phase
+    unfolding replaced
+    sweeping_go z r f h = record {
+      fits = h.fits;
+      same = h.same ∙ k.same;
+      below =
+          omega (
+            arith,
+            inside,
+            length-take-le r z h.fits,
+            ap length h.is,
+            insert_all_length (heirs_of n keep t b) (remove b tab),
+            remove_length b tab k.progress.sorted b_in,
+            tab_length,
+          );
+      phases = k.phases;
+      progress = subst (λ (x : List ℕ). Progress n s t x) (sym h.is) (progress_step n small s g t tab k.progress b b_in f);
+      total = ap (sum (weight n s t)) h.is ∙ total_after f;
+      fertile = λ p x m d. k.fertile p x (before f x (subst (λ (l : List ℕ). Mem x l) h.is m) d) d;
+      clear = λ p. absurd (omega (arith, p));
+      behind = λ x m. settled x (insert_all_e (heirs_of n keep t b) (drop i tab) x (subst (λ (l : List ℕ). Mem x l) (ap (drop (i - 1)) h.is ∙ after f) m));
+    }
+      where
+        settled : (x : ℕ) → Mem x (heirs_of n keep t b) ⊎ Mem x (drop i tab) → Settled n t s phase x
         settled x (inl m) = record { or_fertile = λ d. absurd (d (heir_spared n small s g t x (heir_b n small s g t tab k.progress b b_in f x m))) }
         settled x (inr m) = k.behind x m
 
-    sweeping_visit : Sweeping n t s room all i (visited all n t b tab)
-    unfolding visited
-    sweeping_visit = go (stays all n t b tab) refl
+    pub sweeping_visit : (z : List ℕ) (r : ℕ) → Holds z r (length cur) (visited (eqb phase 1) n t b tab) → Sweeping n t s len z r (i - 1) phase
+    sweeping_visit z r h = go (stays (eqb phase 1) n t b tab) refl
       where
-        go : (x : Bool) → stays all n t b tab ≡ x → Sweeping n t s room all i (cond x tab (planted n (heir_mask n t b tab) b (state t) tab))
-        go true e = sweeping_stay e
+        go : (x : Bool) → stays (eqb phase 1) n t b tab ≡ x → Sweeping n t s len z r (i - 1) phase
+        go true e = sweeping_stay z r e (subst (λ (l : List ℕ). Holds z r (length cur) l) (visited_is true e) h)
         go false e =
-            let y = stays_no all n t b tab e in
-            subst (λ (l : List ℕ). Sweeping n t s room all i l) (sym (becomes y.0)) (sweeping_go y.0 y.1)
-
-  -- ---- a sweep, and the two of a take
-
-  sweeping_all : (all : Bool) (i : ℕ) (tab : List ℕ) → Sweeping n t s room all i tab → Sweeping n t s room all 0 (swept all n t i tab)
-  unfolding swept
-  sweeping_all all zero tab k = k
-  sweeping_all all (suc i) tab k = sweeping_all all i (visited all n t (get_or tab i 0) tab) (sweeping_visit all i tab k)
-
-  sweepable : (all : Bool) (i : ℕ) (tab : List ℕ) → Sweeping n t s room all i tab → Sweepable all n t room i tab
-  unfolding Sweepable
-  sweepable all zero tab k = tt
-  sweepable all (suc i) tab k =
-      (sweeping_can all i tab k, sweepable all i (visited all n t (get_or tab i 0) tab) (sweeping_visit all i tab k))
-
-  module _ (count : ℕ) (e : count ≡ length s) (l : count ≤ room) where
-    pub first_can : Sweepable false n t room count s
-    first_can = sweepable false count s (sweeping_start count e l)
-
-    -- z has the table after the first sweep
-    module _ (z : List ℕ) (have : ℕ) (h : Holds z have room (swept false n t count s)) where
-      second : Sweeping n t s room true have (take have z)
-      second =
-          let q : length (take have z) ≡ have = length-take-le have z h.fits in
-          subst (λ (i : ℕ). Sweeping n t s room true i (take have z)) q
-          (rw h.is (sweeping_next (swept false n t count s) (sweeping_all false count s (sweeping_start count e l))))
-
-      pub second_can : Sweepable true n t (length z) have (take have z)
-      second_can = rw h.same (sweepable true have (take have z) second)
-
-      pub both_done : (y : List ℕ) (r : ℕ) → Holds y r (length z) (swept true n t have (take have z)) → Holds y r room (take_sheet n s t)
-      both_done y r q = record {
-        is = q.is ∙ sweeping_end (swept true n t have (take have z)) (sweeping_all true have (take have z) second);
-        fits = q.fits;
-        same = q.same ∙ h.same;
-      }
+            let f = (stays_no (eqb phase 1) n t b tab e).0 in
+            sweeping_go z r f (subst (λ (l : List ℕ). Holds z r (length cur) l) (visited_is false e ∙ becomes f) h)

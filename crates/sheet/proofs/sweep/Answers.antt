@@ -1,5 +1,5 @@
 -- `sheet::sweep` meets its contract.
-use Rattle.sheet.proofs.Sweeping.{visiting_start, visiting_can, visiting_more, visiting_end}
+use Rattle.sheet.proofs.Sweeps.{visiting_start, visiting_can, visiting_more, visiting_end}
 use Rattle.sheet.proofs.sweep.Goals as goal
 
 pub loop-at-init : goal.loop-at-init

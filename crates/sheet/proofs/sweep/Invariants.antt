@@ -1,7 +1,7 @@
 -- The rules in front of `at` are still to be visited.
 use lib.ListN.{length, take}
 use Rattle.sheet.specs.Taking.{swept}
-use Rattle.sheet.proofs.Sweeping.{Visiting}
+use Rattle.sheet.proofs.Sweeps.{Visiting}
 use Rattle.sheet.proofs.sweep.Given as goal
 
 abbrev pub invariant-loop-at : goal.invariant-loop-at

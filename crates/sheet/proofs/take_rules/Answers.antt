@@ -1,7 +1,7 @@
 -- `sheet::take_rules` meets its contract.
 use mathlib.Core.Path.{sym}
 use lib.Seq.{length-take-le}
-use Rattle.sheet.proofs.Sweeping.{first_can, second_can, both_done}
+use Rattle.sheet.proofs.Sweeps.{first_can, second_can, both_done}
 use Rattle.sheet.proofs.take_rules.Goals as goal
 
 pub sweep-have-requires : goal.sweep-have-requires
