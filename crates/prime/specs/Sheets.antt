@@ -1,6 +1,5 @@
 -- The sheet of a set of transitions, good sheets, and what fresh, take, join and apply make of sheets.
-use Rattle.std.specs.Prelude.{ℕ, ◌^◌, Bool, true, false, not, ◌&&◌, ◌||◌, List, [], ◌∷◌, eqb}
-use Rattle.std.specs.Int.Bits.{bit_or}
+use Rattle.std.specs.Prelude.{ℕ, Bool, true, not, ◌&&◌, ◌||◌, List, [], ◌∷◌, eqb}
 use Rattle.table.specs.Lists.{any, all, filter, each, increasing, missing}
 use Rattle.panel.specs.Masks.{bits_where}
 use Rattle.panel.specs.Rules.{rule_word, head, valid_rule, covers, narrows, rules}
@@ -79,11 +78,3 @@ pulls_in s x h = any (λ w. eqb (head w) h && covers w x) s
 -- apply: of the relays below n, exactly those that some rule pulls in are on
 unfoldable pub apply_sheet : ℕ → List ℕ → ℕ → ℕ
 apply_sheet n s x = bits_where n (pulls_in s x)
-
-abbrev pub or_bit : Bool → ℕ → ℕ → ℕ
-or_bit true h on = bit_or on (2 ^ h)
-or_bit false h on = on
-
--- the relays that are on so far, and the head of w if its body covers x
-unfoldable pub pulled : ℕ → ℕ → ℕ → ℕ
-pulled x w on = or_bit (covers w x) (head w) on

@@ -1,11 +1,8 @@
--- What the loop of this function keeps.
-use Prim.Native.Nat.{◌≤◌, ◌-◌}
-use lib.ListN.{length}
-use Rattle.prime.proofs.Passes.{Applying}
+-- `on` is what the rules passed so far make of the state.
+use mathlib.Core.Path.{◌≡◌}
+use lib.ListN.{take}
+use Rattle.prime.specs.Sheets.{apply_sheet}
 use Rattle.prime.proofs.apply_rules.Given as goal
 
-abbrev pub invariant-loop-k : goal.invariant-loop-k
-invariant-loop-k l = (l.k ≤ length l.sheet) × Applying l.n l.sheet l.x l.on l.k
-
-abbrev pub decreases-loop-k : goal.decreases-loop-k
-decreases-loop-k l = length l.sheet - l.k
+abbrev pub invariant-loop-w : goal.invariant-loop-w
+invariant-loop-w l = l.on ≡ apply_sheet l.n (take l.w-index l.sheet) l.x

@@ -1,13 +1,13 @@
--- What the loop of this function keeps.
+-- No rule before those that are left narrows another; the measure is how many are left.
 use mathlib.Core.Path.{◌≡◌}
-use Prim.Native.Nat.{◌≤◌, ◌-◌}
+use mathlib.Core.Bool.{true}
 use lib.ListN.{length}
+use Rattle.table.specs.Lists.{increasing}
 use Rattle.prime.specs.Sheets.{antichain}
-use Rattle.prime.proofs.Passes.{antichain_left}
 use Rattle.prime.proofs.is_antichain.Given as goal
 
-abbrev pub invariant-loop-k : goal.invariant-loop-k
-invariant-loop-k l = (l.k ≤ length l.sheet) × (antichain l.sheet ≡ antichain_left l.sheet l.k)
+abbrev pub invariant-loop-left : goal.invariant-loop-left
+invariant-loop-left l = (antichain l.sheet ≡ antichain l.left) × (increasing l.left ≡ true)
 
-abbrev pub decreases-loop-k : goal.decreases-loop-k
-decreases-loop-k l = length l.sheet - l.k
+abbrev pub decreases-loop-left : goal.decreases-loop-left
+decreases-loop-left l = length l.left

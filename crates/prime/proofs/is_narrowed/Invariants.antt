@@ -1,14 +1,9 @@
--- What the loop of this function keeps.
+-- None of the words passed narrows w.
 use mathlib.Core.Path.{◌≡◌}
-use Prim.Native.Nat.{◌≤◌, ◌-◌}
-use lib.ListN.{length}
 use Rattle.table.specs.Lists.{any}
 use Rattle.panel.specs.Rules.{narrows}
-use Rattle.table.proofs.Searching.{any_left}
+use Rattle.prime.proofs.Passes.{narrowed_left}
 use Rattle.prime.proofs.is_narrowed.Given as goal
 
-abbrev pub invariant-loop-k : goal.invariant-loop-k
-invariant-loop-k l = (l.k ≤ length l.rest) × (any (λ r. narrows r l.w) l.rest ≡ any_left (λ r. narrows r l.w) l.rest l.k)
-
-abbrev pub decreases-loop-k : goal.decreases-loop-k
-decreases-loop-k l = length l.rest - l.k
+abbrev pub invariant-loop-r : goal.invariant-loop-r
+invariant-loop-r l = any (λ r. narrows r l.w) l.rest ≡ narrowed_left l.w l.rest l.r-index
