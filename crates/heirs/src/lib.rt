@@ -7,12 +7,14 @@ ghost use Rattle.table.specs.Lists.{all};
 ghost use Rattle.panel.specs.Transitions.{spared};
 ghost use Rattle.heirs.specs.Heirs.{heir_mask, near_all};
 
+use panel::PanelSize;
+
 // The contacts that single rules of the part have beyond b, as bits of the word. All are rules of its head.
 fn near_part(part: &[u32], b: u32) -> u32
     requires { all (λ r. eqb (head r) (head b)) part.now ≡ true }
     ensures { result ≡ near_all b 0 part.now }
 {
-    let mut seen: u32 = 0;
+    let mut seen: PanelSize = 0;
     let mut k: usize = 0;
     while k < part.len() {
         seen = seen | panel::near_rule(b, part[k]);
@@ -22,8 +24,8 @@ fn near_part(part: &[u32], b: u32) -> u32
 }
 
 // The relays below n whose candidates of the hit rule b are heirs, as far as the part, rules of its head, tells.
-pub fn heir_mask(part: &[u32], n: u32, t: u32, b: u32) -> u32
-    requires { (n ≤ 10) × (valid_rule n b ≡ true) × (spared t b ≡ false) × (all (λ r. eqb (head r) (head b)) part.now ≡ true) }
+pub fn heir_mask(part: &[u32], n: PanelSize, t: u32, b: u32) -> u32
+    requires { (valid_rule n b ≡ true) × (spared t b ≡ false) × (all (λ r. eqb (head r) (head b)) part.now ≡ true) }
     ensures { result ≡ heir_mask n t b part.now }
 {
     let seen = near_part(part, b);

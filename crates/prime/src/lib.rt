@@ -6,10 +6,11 @@ ghost use Rattle.table.specs.Lists.{any, all, increasing};
 ghost use Rattle.panel.specs.Rules.{head, valid_rule, narrows, of_head};
 ghost use Rattle.prime.specs.Sheets.{good_sheet, antichain, apply_sheet};
 
+use panel::PanelSize;
+
 // The words are rules of a panel with n relays, strictly increasing.
 #[tactic(auto, using(crate::proofs::Passes::rules_start, crate::proofs::Passes::rules_step, crate::proofs::Passes::rules_end, crate::proofs::Passes::rule_small))]
-fn are_rules(n: u32, sheet: &[u32]) -> bool
-    requires { n ≤ 10 }
+fn are_rules(n: PanelSize, sheet: &[u32]) -> bool
     ensures { result ≡ (all (valid_rule n) sheet.now && increasing sheet.now) }
 {
     let mut lo = 0;
@@ -58,8 +59,7 @@ fn is_antichain(sheet: &[u32]) -> bool
 
 // The words are a good sheet for n relays.
 #[tactic(auto, using(crate::proofs::Passes::good_tests, crate::proofs::Passes::rules_increase))]
-pub fn is_good_sheet(n: u32, sheet: &[u32]) -> bool
-    requires { n ≤ 10 }
+pub fn is_good_sheet(n: PanelSize, sheet: &[u32]) -> bool
     ensures { result ≡ good_sheet n sheet.now }
 {
     are_rules(n, sheet) && is_antichain(sheet)
@@ -78,8 +78,8 @@ pub fn stretch(s: &[u32], h: u32) -> &[u32]
 
 // The state in which exactly the heads are on of which some rule covers x.
 #[tactic(auto, using(crate::proofs::Passes::apply_none, crate::proofs::Passes::apply_past, crate::proofs::Passes::apply_pull, crate::proofs::Passes::rule_head))]
-pub fn apply_rules(n: u32, sheet: &[u32], x: u32) -> u32
-    requires { (n ≤ 10) × (all (valid_rule n) sheet.now ≡ true) }
+pub fn apply_rules(n: PanelSize, sheet: &[u32], x: u32) -> u32
+    requires { all (valid_rule n) sheet.now ≡ true }
     ensures { result ≡ apply_sheet n sheet.now x }
 {
     let mut on = 0;

@@ -12,6 +12,8 @@ ghost use Rattle.prime.specs.Sheets.{good_sheet, fresh_sheet, take_sheet};
 ghost use Rattle.heirs.specs.Heirs.{heir_mask, picked};
 ghost use Rattle.sheet.specs.Taking.{tally_of, Tallying, on_count, FirstOn, planted, visited, swept, Plantable, Visitable, Sweepable};
 
+use panel::PanelSize;
+
 // What a take strikes and adds.
 #[derive(Clone, Copy)]
 pub struct Tally {
@@ -20,8 +22,8 @@ pub struct Tally {
 }
 
 // The relays whose candidates of the hit rule b are heirs. Only the stretch of its head is looked at.
-pub fn heirs_of(sheet: &[u32], n: u32, t: u32, b: u32) -> u32
-    requires { (n ≤ 10) × (increasing sheet.now ≡ true) × (valid_rule n b ≡ true) × (spared t b ≡ false) }
+pub fn heirs_of(sheet: &[u32], n: PanelSize, t: u32, b: u32) -> u32
+    requires { (increasing sheet.now ≡ true) × (valid_rule n b ≡ true) × (spared t b ≡ false) }
     ensures { result ≡ heir_mask n t b sheet.now }
 {
     let part = prime::stretch(sheet, panel::head_of(b));
@@ -29,16 +31,15 @@ pub fn heirs_of(sheet: &[u32], n: u32, t: u32, b: u32) -> u32
 }
 
 // How many relays below n are on in the mask.
-fn count_on(n: u32, mask: u32) -> usize
-    requires { n ≤ 10 }
+fn count_on(n: PanelSize, mask: u32) -> usize
     ensures { (result ≡ on_count n mask) × (result ≤ 10) }
 {
-    (0..n).filter(|&v| panel::is_on(v, mask)).count()
+    (0..n.relays()).filter(|&v| panel::is_on(v, mask)).count()
 }
 
 // What has been counted so far, with the rule b of the sheet.
-fn tally_rule(before: Tally, sheet: &[u32], n: u32, t: u32, k: usize) -> Tally
-    requires { (n ≤ 10) × (good_sheet n sheet.now ≡ true) × (k < length sheet.now) × Tallying n t sheet.now k before.struck before.added }
+fn tally_rule(before: Tally, sheet: &[u32], n: PanelSize, t: u32, k: usize) -> Tally
+    requires { (good_sheet n sheet.now ≡ true) × (k < length sheet.now) × Tallying n t sheet.now k before.struck before.added }
     ensures { Tallying n t sheet.now (k + 1) result.struck result.added }
 {
     let b = sheet[k];
@@ -53,8 +54,8 @@ fn tally_rule(before: Tally, sheet: &[u32], n: u32, t: u32, k: usize) -> Tally
 }
 
 // What a take of t strikes and adds, before anything is written.
-pub fn count_changes(sheet: &[u32], n: u32, t: u32) -> Tally
-    requires { (n ≤ 10) × (good_sheet n sheet.now ≡ true) }
+pub fn count_changes(sheet: &[u32], n: PanelSize, t: u32) -> Tally
+    requires { good_sheet n sheet.now ≡ true }
     ensures { result ≡ tally_of n sheet.now t }
 {
     let mut so = Tally {
@@ -81,28 +82,28 @@ fn plant_one(sheet: &mut [u32], have: usize, v: u32, i: u32, b: u32, mask: u32) 
 }
 
 // The candidates of b on the relays of the mask go into their places.
-fn plant(sheet: &mut [u32], count: usize, n: u32, i: u32, b: u32, mask: u32) -> usize
-    requires { (n ≤ 10) × (b < 16777216) × (count ≤ length sheet.old) × Plantable n mask b i (take count sheet.old) (length sheet.old) }
+fn plant(sheet: &mut [u32], count: usize, n: PanelSize, i: u32, b: u32, mask: u32) -> usize
+    requires { (b < 16777216) × (count ≤ length sheet.old) × Plantable n mask b i (take count sheet.old) (length sheet.old) }
     ensures { Holds sheet.new result (length sheet.old) (insert_all (picked n mask b i) (take count sheet.old)) }
 {
     let mut have = count;
-    for v in 0..n {
+    for v in 0..n.relays() {
         have = plant_one(sheet, have, v, i, b, mask);
     }
     have
 }
 
 // The first relay below n that is on in the mask.
-fn first_on(n: u32, mask: u32) -> Option<u32>
+fn first_on(n: PanelSize, mask: u32) -> Option<u32>
     ensures { MatchOption result (FirstOn n mask n) (λ u. (u < n) × FirstOn n mask u) }
 {
-    (0..n).find(|&v| panel::is_on(v, mask))
+    (0..n.relays()).find(|&v| panel::is_on(v, mask))
 }
 
 // The rule at a place goes, and its candidates on the relays of the mask come. The first of them takes over its room, so that only the
 // words between the two places move.
-fn replant(sheet: &mut [u32], have: usize, at: usize, n: u32, i: u32, mask: u32) -> usize
-    requires { (n ≤ 10) × (get_or sheet.old at 0 < 16777216) × (at < have) × (have ≤ length sheet.old) × (increasing (take have sheet.old) ≡ true) × Plantable n mask (get_or sheet.old at 0) i (remove (get_or sheet.old at 0) (take have sheet.old)) (length sheet.old) }
+fn replant(sheet: &mut [u32], have: usize, at: usize, n: PanelSize, i: u32, mask: u32) -> usize
+    requires { (get_or sheet.old at 0 < 16777216) × (at < have) × (have ≤ length sheet.old) × (increasing (take have sheet.old) ≡ true) × Plantable n mask (get_or sheet.old at 0) i (remove (get_or sheet.old at 0) (take have sheet.old)) (length sheet.old) }
     ensures { Holds sheet.new result (length sheet.old) (planted n mask (get_or sheet.old at 0) i (take have sheet.old)) }
 {
     let b = sheet[at];
@@ -123,7 +124,7 @@ fn goes(all: bool, mask: u32) -> bool
 }
 
 // The rule at a place is visited: it stays, or gives way to its heirs.
-fn visit(sheet: &mut [u32], have: usize, at: usize, n: u32, t: u32, all: bool) -> usize
+fn visit(sheet: &mut [u32], have: usize, at: usize, n: PanelSize, t: u32, all: bool) -> usize
     requires { Visitable all n t sheet.old have at }
     ensures { Holds sheet.new result (length sheet.old) (visited all n t (get_or sheet.old at 0) (take have sheet.old)) }
 {
@@ -139,7 +140,7 @@ fn visit(sheet: &mut [u32], have: usize, at: usize, n: u32, t: u32, all: bool) -
 }
 
 // The rules of the table are visited, from the last to the first.
-fn sweep(sheet: &mut [u32], count: usize, n: u32, t: u32, all: bool) -> usize
+fn sweep(sheet: &mut [u32], count: usize, n: PanelSize, t: u32, all: bool) -> usize
     requires { (count ≤ length sheet.old) × Sweepable all n t (length sheet.old) count (take count sheet.old) }
     ensures { Holds sheet.new result (length sheet.old) (swept all n t count (take count sheet.old)) }
 {
@@ -152,8 +153,8 @@ fn sweep(sheet: &mut [u32], count: usize, n: u32, t: u32, all: bool) -> usize
 
 // The first count words are a good sheet, and there is room for the new one: the new sheet stands in its place. A sweep from the end
 // to the front retires the hit rules without an heir; a second one sets the heirs of the others in their places.
-pub fn take_rules(sheet: &mut [u32], count: usize, n: u32, t: u32) -> usize
-    requires { (n ≤ 10) × (count ≤ length sheet.old) × (good_sheet n (take count sheet.old) ≡ true) × (length (take_sheet n (take count sheet.old) t) ≤ length sheet.old) }
+pub fn take_rules(sheet: &mut [u32], count: usize, n: PanelSize, t: u32) -> usize
+    requires { (count ≤ length sheet.old) × (good_sheet n (take count sheet.old) ≡ true) × (length (take_sheet n (take count sheet.old) t) ≤ length sheet.old) }
     ensures { Holds sheet.new result (length sheet.old) (take_sheet n (take count sheet.old) t) }
 {
     let have = sweep(sheet, count, n, t, false);
@@ -161,11 +162,11 @@ pub fn take_rules(sheet: &mut [u32], count: usize, n: u32, t: u32) -> usize
 }
 
 // The fresh sheet: n rules with empty bodies, over the front of the slice.
-pub fn write_fresh(sheet: &mut [u32], n: u32)
-    requires { (n ≤ 10) × (n ≤ length sheet.old) }
+pub fn write_fresh(sheet: &mut [u32], n: PanelSize)
+    requires { n ≤ length sheet.old }
     ensures { sheet.new ≡ fresh_sheet n ++ drop n sheet.old }
 {
-    for h in 0..n {
+    for h in 0..n.relays() {
         sheet[h as usize] = panel::rule_word(h, 0, 0);
     }
 }

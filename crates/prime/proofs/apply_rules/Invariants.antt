@@ -5,4 +5,4 @@ use Rattle.prime.specs.Sheets.{apply_sheet}
 use Rattle.prime.proofs.apply_rules.Given as goal
 
 abbrev pub invariant-loop-w : goal.invariant-loop-w
-invariant-loop-w l = l.on ≡ apply_sheet l.n (take l.w-index l.sheet) l.x
+invariant-loop-w l = l.on ≡ apply_sheet l.fn.n (take l.w-index l.sheet) l.x

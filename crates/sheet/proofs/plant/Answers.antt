@@ -4,12 +4,12 @@ use Rattle.sheet.proofs.Planting.{plant_start, plant_order, plant_room, plant_mo
 use Rattle.sheet.proofs.plant.Goals as goal
 
 pub loop-v-init : goal.loop-v-init
-loop-v-init c = plant_start _ _ _ _ _ c.requires.2
+loop-v-init c = plant_start _ _ _ _ _ c.requires.1
 
 pub plant_one-have-requires : goal.plant_one-have-requires
 plant_one-have-requires c =
-    (omega arith, c.requires.1, c.loop-v.invariant.fits, plant_order _ _ _ _ _ _ _ _ _ c.loop-v.invariant c.loop-v-test.true c.requires.3, plant_room _ _ _ _ _ _ _ _ _ c.loop-v.invariant c.loop-v-test.true c.requires.3)
+    (omega arith, c.requires.0, c.loop-v.invariant.fits, plant_order _ _ _ _ _ _ _ _ _ c.loop-v.invariant c.loop-v-test.true c.requires.2, plant_room _ _ _ _ _ _ _ _ _ c.loop-v.invariant c.loop-v-test.true c.requires.2)
 
 pub loop-v-preserved : goal.loop-v-preserved
 loop-v-preserved c =
-    plant_more _ _ _ _ _ _ _ _ _ c.loop-v.invariant c.loop-v-test.true c.requires.3 _ _ c.plant_one-have.ensures
+    plant_more _ _ _ _ _ _ _ _ _ c.loop-v.invariant c.loop-v-test.true c.requires.2 _ _ c.plant_one-have.ensures

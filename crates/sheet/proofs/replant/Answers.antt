@@ -11,17 +11,17 @@ use Rattle.sheet.proofs.replant.Goals as goal
 
 pub returns-in_default : goal.returns-in_default
 returns-in_default c =
-    barren_done _ _ _ _ _ _ _ c.in_default.ensures (removed_table _ _ _ _ c.requires.2 c.requires.3 c.requires.4 c.remove_at.ensures)
+    barren_done _ _ _ _ _ _ _ c.in_default.ensures (removed_table _ _ _ _ c.requires.1 c.requires.2 c.requires.3 c.remove_at.ensures)
 
 pub candidate_on-c-requires : goal.candidate_on-c-requires
-candidate_on-c-requires c = (omega (arith, c.requires.0, c.in-Some.ensures.0), c.requires.1)
+candidate_on-c-requires c = (omega (arith, (omega arith), c.in-Some.ensures.0), c.requires.0)
 
 pub replace_at-requires : goal.replace_at-requires
 replace_at-requires c =
-    (c.requires.2, c.requires.3, c.requires.4, subst (λ (k : ℕ). get_or c.args.sheet.now c.args.at 0 < k) (sym c.candidate_on-c.ensures) (candidate_above _ _ _))
+    (c.requires.1, c.requires.2, c.requires.3, subst (λ (k : ℕ). get_or c.args.sheet.now c.args.at 0 < k) (sym c.candidate_on-c.ensures) (candidate_above _ _ _))
 
 pub power-requires : goal.power-requires
-power-requires c = omega (arith, c.requires.0, c.in-Some.ensures.0)
+power-requires c = omega (arith, (omega arith), c.in-Some.ensures.0)
 
 pub overflow_sub-mask : goal.overflow_sub-mask
 overflow_sub-mask c =
@@ -31,11 +31,11 @@ overflow_sub-mask c =
 pub plant-requires : goal.plant-requires
 plant-requires c =
     let first = c.in-Some.ensures in
-    let h = replaced_holds _ _ _ _ _ c.requires.2 c.requires.3 c.requires.4 c.replace_at.ensures in
-    (c.requires.0, c.requires.1, h.fits, swap_can _ _ _ _ _ _ _ _ _ _ first.1 first.0 c.candidate_on-c.ensures c.power.ensures.0 h c.requires.5)
+    let h = replaced_holds _ _ _ _ _ c.requires.1 c.requires.2 c.requires.3 c.replace_at.ensures in
+    ((omega arith), c.requires.0, h.fits, swap_can _ _ _ _ _ _ _ _ _ _ first.1 first.0 c.candidate_on-c.ensures c.power.ensures.0 h c.requires.4)
 
 pub returns : goal.returns
 returns c =
     let first = c.in-Some.ensures in
-    let h = replaced_holds _ _ _ _ _ c.requires.2 c.requires.3 c.requires.4 c.replace_at.ensures in
+    let h = replaced_holds _ _ _ _ _ c.requires.1 c.requires.2 c.requires.3 c.replace_at.ensures in
     swap_done _ _ _ _ _ _ _ _ _ _ first.1 first.0 c.candidate_on-c.ensures c.power.ensures.0 h _ _ c.plant.ensures

@@ -6,12 +6,12 @@ use Rattle.sheet.proofs.take_rules.Goals as goal
 
 pub sweep-have-requires : goal.sweep-have-requires
 sweep-have-requires c =
-    (c.requires.1, first_can _ c.requires.0 _ _ c.requires.2 _ c.requires.3 _ (sym (length-take-le _ _ c.requires.1)) c.requires.1)
+    (c.requires.0, first_can _ (omega arith) _ _ c.requires.1 _ c.requires.2 _ (sym (length-take-le _ _ c.requires.0)) c.requires.0)
 
 pub sweep-requires : goal.sweep-requires
 sweep-requires c =
-    (c.sweep-have.ensures.fits, second_can _ c.requires.0 _ _ c.requires.2 _ c.requires.3 _ (sym (length-take-le _ _ c.requires.1)) c.requires.1 _ _ c.sweep-have.ensures)
+    (c.sweep-have.ensures.fits, second_can _ (omega arith) _ _ c.requires.1 _ c.requires.2 _ (sym (length-take-le _ _ c.requires.0)) c.requires.0 _ _ c.sweep-have.ensures)
 
 pub returns : goal.returns
 returns c =
-    both_done _ c.requires.0 _ _ c.requires.2 _ c.requires.3 _ (sym (length-take-le _ _ c.requires.1)) c.requires.1 _ _ c.sweep-have.ensures _ _ c.sweep.ensures
+    both_done _ (omega arith) _ _ c.requires.1 _ c.requires.2 _ (sym (length-take-le _ _ c.requires.0)) c.requires.0 _ _ c.sweep-have.ensures _ _ c.sweep.ensures
