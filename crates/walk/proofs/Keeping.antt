@@ -32,8 +32,8 @@ use Rattle.table.proofs.Increasing.{cons_increasing, first_below, rest_increasin
 use Rattle.table.proofs.Between.{between_e, between_i, between_increasing, between_unique, between_none}
 use Rattle.panel.specs.Rules.{head, Rule, rules, of_head}
 use Rattle.panel.proofs.Words.{head_range, rules_e, rules_i, rules_increasing}
-use Rattle.prime.specs.Sheets.{least, sheet_where}
-use Rattle.prime.proofs.Least.{Upward, least_e, least_i, member_e, member_i, sheet_increasing}
+use Rattle.prime.specs.Sheets.{least, sheet_where, good_sheet}
+use Rattle.prime.proofs.Least.{Upward, good_e, least_e, least_i, member_e, member_i, sheet_increasing}
 use Rattle.walk.specs.declared.Rules.{Rules}
 use Rattle.spans.specs.Steps.{Spot, Next}
 use Rattle.spans.specs.Fewer.{smaller, without, fewer}
@@ -171,3 +171,6 @@ module _ (n : ℕ) (small : n ≤ 10) (a b : List ℕ) (h : ℕ) where
 
 pub over_none : (xs s : List ℕ) → 0 ≡ length xs → s ≡ over xs s
 over_none xs s e = (nothing_over xs s e).1
+
+pub sorted : (n : ℕ) (s : List ℕ) → good_sheet n s ≡ true → increasing s ≡ true
+sorted n s e = (good_e n s e).sorted

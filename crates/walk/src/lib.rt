@@ -157,6 +157,7 @@ fn write_head(n: u32, h: u32, a: &[u32], b: &[u32], out: &mut [u32]) -> usize
 // ---- join: of both sheets only the stretch of the head is looked at
 
 // How many rules the join of two good sheets has.
+#[tactic(auto, using(spans::proofs::Walking::counted_start, crate::proofs::Keeping::sorted))]
 pub fn count_join(n: u32, a: &[u32], b: &[u32]) -> usize
     requires { (n ≤ 10) × (good_sheet n a.now ≡ true) × (good_sheet n b.now ≡ true) }
     ensures { result ≡ length (join_sheet n a.now b.now) }
@@ -169,6 +170,7 @@ pub fn count_join(n: u32, a: &[u32], b: &[u32]) -> usize
 }
 
 // Writes the join of two good sheets over the front of out, and gives the number of its rules.
+#[tactic(auto, using(crate::proofs::Keeping::sorted))]
 pub fn write_join(n: u32, a: &[u32], b: &[u32], out: &mut [u32]) -> usize
     requires { (n ≤ 10) × (good_sheet n a.now ≡ true) × (good_sheet n b.now ≡ true) × (length (join_sheet n a.now b.now) ≤ length out.old) }
     ensures { Laid out.old out.new result (join_sheet n a.now b.now) }

@@ -1,20 +1,9 @@
 use mathlib.Core.Path.{ap, ◌∙◌}
 use native.Mathlib.Omega.{arith}
 use lib.ListN.{length}
-use Rattle.prime.proofs.Least.{good_e}
-use Rattle.spans.proofs.Walking.{counted_start}
 use Rattle.spans.proofs.Heads.{heads_more, heads_done}
 use Rattle.spans.proofs.Joining.{join_permit, join_head}
 use Rattle.walk.proofs.count_join.Goals as goal
-
-pub loop-h-init : goal.loop-h-init
-loop-h-init c = counted_start _ c.requires.0 _ 0
-
-pub stretch-requires : goal.stretch-requires
-stretch-requires c = (omega arith, (good_e _ _ c.requires.1).sorted)
-
-pub stretch-requires-in-loop-h : goal.stretch-requires-in-loop-h
-stretch-requires-in-loop-h c = (omega arith, (good_e _ _ c.requires.2).sorted)
 
 pub loop-h-preserved : goal.loop-h-preserved
 loop-h-preserved c = heads_more _ c.requires.0 _ _ _ _ _ (join_head _ c.requires.0 _ _ _ _ _ c.stretch.ensures c.stretch-in-loop-h.ensures) c.loop-h.invariant c.count_head-count.ensures.count c.count_head-count.ensures.few

@@ -3,7 +3,6 @@ use Prim.Native.Nat.{◌-◌}
 use native.Mathlib.Omega.{arith}
 use lib.ListN.{length, drop, length-drop}
 use lib.Seq.{take_all}
-use Rattle.prime.proofs.Least.{good_e}
 use Rattle.spans.specs.Parts.{Laid}
 use Rattle.spans.proofs.Overwriting.{put_over}
 use Rattle.spans.proofs.Walking.{written_start}
@@ -13,12 +12,6 @@ use Rattle.walk.proofs.write_join.Goals as goal
 
 pub loop-h-init : goal.loop-h-init
 loop-h-init c = written_start _ c.requires.0 _ 0 _
-
-pub stretch-requires : goal.stretch-requires
-stretch-requires c = (omega arith, (good_e _ _ c.requires.1).sorted)
-
-pub stretch-requires-in-loop-h : goal.stretch-requires-in-loop-h
-stretch-requires-in-loop-h c = (omega arith, (good_e _ _ c.requires.2).sorted)
 
 pub write_head-at-requires : goal.write_head-at-requires
 write_head-at-requires c =
