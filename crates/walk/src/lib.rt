@@ -11,6 +11,8 @@ ghost use Rattle.spans.specs.Fewer.{without, smaller, fewer};
 ghost use Rattle.spans.specs.Steps.{Spot, Next};
 ghost use Rattle.spans.specs.Touching.{touches, both_touch};
 
+use panel::PanelSize;
+
 // ---- the rules of a panel, one by one
 
 // The rule w without its contact on the relay v.
@@ -30,11 +32,11 @@ fn drop_contact(w: u32, v: u32) -> u32
 }
 
 // The next place of a walk: the next off-mask, the next on-mask, or the next head.
-fn next_word(n: u32, w: u32) -> u32
-    requires { (n ≤ 10) × Spot n w × (head w < 10) }
+fn next_word(n: PanelSize, w: u32) -> u32
+    requires { Spot n w × (head w < 10) }
     ensures { Next n w result }
 {
-    let size = panel::power(n);
+    let size = n.states();
     let m = panel::must_off(w);
     let p = panel::must_on(w);
     if m + p + 1 < size {
@@ -49,7 +51,7 @@ fn next_word(n: u32, w: u32) -> u32
 // The rules of a panel with n relays from the word `at` on and below `end`, in the order of their words.
 #[derive(Drop)]
 struct Rules {
-    n: u32,
+    n: PanelSize,
     at: u32,
     end: u32,
     ghost small: { n ≤ 10 },
@@ -60,8 +62,8 @@ struct Rules {
 impl Rules {
     // The rules of the head h.
     #[tactic(auto, unfolding(panel::specs::Rules::of_head))]
-    fn of_head(n: u32, h: u32) -> Rules
-        requires { (n ≤ 10) × (h < n) }
+    fn of_head(n: PanelSize, h: u32) -> Rules
+        requires { h < n }
         ensures { between result.at result.end (rules result.n) ≡ of_head h (rules n) }
     {
         Rules {
@@ -114,17 +116,16 @@ fn is_smaller(a: &[u32], b: &[u32], w: u32, x: u32) -> bool
 }
 
 // The walk keeps w: both touch it, and with any one contact fewer they no longer do.
-fn is_kept(n: u32, a: &[u32], b: &[u32], w: u32) -> bool
-    requires { n ≤ 10 }
+fn is_kept(n: PanelSize, a: &[u32], b: &[u32], w: u32) -> bool
     ensures { result ≡ (both_touch a.now b.now w && not (fewer n (both_touch a.now b.now) w)) }
 {
-    both_touch(a, b, w) && !(0..n).any(|v| is_smaller(a, b, w, drop_contact(w, v)))
+    both_touch(a, b, w) && !(0..n.relays()).any(|v| is_smaller(a, b, w, drop_contact(w, v)))
 }
 
 // How many words of the head h are kept. A head that one side lacks has none.
 #[tactic(auto, using(spans::proofs::Joining::head_none_left, spans::proofs::Joining::head_none_right))]
-fn count_head(n: u32, h: u32, a: &[u32], b: &[u32]) -> usize
-    requires { (n ≤ 10) × (h < n) }
+fn count_head(n: PanelSize, h: u32, a: &[u32], b: &[u32]) -> usize
+    requires { h < n }
     ensures count { result ≡ length (of_head h (sheet_where n (both_touch a.now b.now))) }
     ensures few { result ≤ 1048576 }
 {
@@ -138,8 +139,8 @@ fn count_head(n: u32, h: u32, a: &[u32], b: &[u32]) -> usize
 
 // Writes the words of the head h that are kept over the front of out, and gives their number.
 #[tactic(auto, using(crate::proofs::Keeping::over_none, spans::proofs::Joining::head_none_left, spans::proofs::Joining::head_none_right))]
-fn write_head(n: u32, h: u32, a: &[u32], b: &[u32], out: &mut [u32]) -> usize
-    requires { (n ≤ 10) × (h < n) × (length (of_head h (sheet_where n (both_touch a.now b.now))) ≤ length out.old) }
+fn write_head(n: PanelSize, h: u32, a: &[u32], b: &[u32], out: &mut [u32]) -> usize
+    requires { (h < n) × (length (of_head h (sheet_where n (both_touch a.now b.now))) ≤ length out.old) }
     ensures count { result ≡ length (of_head h (sheet_where n (both_touch a.now b.now))) }
     ensures written { out.new ≡ over (of_head h (sheet_where n (both_touch a.now b.now))) out.old }
 {
@@ -158,12 +159,12 @@ fn write_head(n: u32, h: u32, a: &[u32], b: &[u32], out: &mut [u32]) -> usize
 
 // How many rules the join of two good sheets has.
 #[tactic(auto, using(spans::proofs::Walking::counted_start, crate::proofs::Keeping::sorted))]
-pub fn count_join(n: u32, a: &[u32], b: &[u32]) -> usize
-    requires { (n ≤ 10) × (good_sheet n a.now ≡ true) × (good_sheet n b.now ≡ true) }
+pub fn count_join(n: PanelSize, a: &[u32], b: &[u32]) -> usize
+    requires { (good_sheet n a.now ≡ true) × (good_sheet n b.now ≡ true) }
     ensures { result ≡ length (join_sheet n a.now b.now) }
 {
     let mut count = 0;
-    for h in 0..n {
+    for h in 0..n.relays() {
         count += count_head(n, h, prime::stretch(a, h), prime::stretch(b, h));
     }
     count
@@ -171,12 +172,12 @@ pub fn count_join(n: u32, a: &[u32], b: &[u32]) -> usize
 
 // Writes the join of two good sheets over the front of out, and gives the number of its rules.
 #[tactic(auto, using(crate::proofs::Keeping::sorted))]
-pub fn write_join(n: u32, a: &[u32], b: &[u32], out: &mut [u32]) -> usize
-    requires { (n ≤ 10) × (good_sheet n a.now ≡ true) × (good_sheet n b.now ≡ true) × (length (join_sheet n a.now b.now) ≤ length out.old) }
+pub fn write_join(n: PanelSize, a: &[u32], b: &[u32], out: &mut [u32]) -> usize
+    requires { (good_sheet n a.now ≡ true) × (good_sheet n b.now ≡ true) × (length (join_sheet n a.now b.now) ≤ length out.old) }
     ensures { Laid out.old out.new result (join_sheet n a.now b.now) }
 {
     let mut at = 0;
-    for h in 0..n {
+    for h in 0..n.relays() {
         at += write_head(
             n,
             h,

@@ -19,7 +19,7 @@ loop-w-init c = record { written = over_nil _; place = refl }
 -- a word that is kept has its place
 here : (c : goal.In-Some) → c.loop-w.at < length c.loop-w.out
 here c =
-    let turn = YieldsList-turn (head_road _ c.requires.0 c.args.a.now c.args.b.now c.args.h _ _ _ c.into_iter-w-iterator.ensures.into_iter_gives c.filter-w-items.ensures.source c.of_head.ensures c.filter-w-items.ensures.closure (λ x b f k. search (usual, tests)))
+    let turn = YieldsList-turn (head_road c.args.n (omega arith) c.args.a.now c.args.b.now c.args.h _ _ _ c.into_iter-w-iterator.ensures.into_iter_gives c.filter-w-items.ensures.source c.of_head.ensures c.filter-w-items.ensures.closure (λ x b f k. search (usual, tests)))
     c.loop-w.yielded c.loop-w.w-iterator c.loop-w.yielded_by _ c.next.new.self _ c.in-Some.is c.next.ensures.steps in
     omega (arith, turn.0)
 
@@ -40,7 +40,7 @@ loop-w-preserved c = let k = c.loop-w.invariant in record {
 
 pub returns : goal.returns
 returns c =
-    let all = YieldsList-end (head_road _ c.requires.0 c.args.a.now c.args.b.now c.args.h _ _ _ c.into_iter-w-iterator.ensures.into_iter_gives c.filter-w-items.ensures.source c.of_head.ensures c.filter-w-items.ensures.closure (λ x b f k. search (usual, tests)))
+    let all = YieldsList-end (head_road c.args.n (omega arith) c.args.a.now c.args.b.now c.args.h _ _ _ c.into_iter-w-iterator.ensures.into_iter_gives c.filter-w-items.ensures.source c.of_head.ensures c.filter-w-items.ensures.closure (λ x b f k. search (usual, tests)))
     c.loop-w.yielded c.loop-w.w-iterator c.loop-w.yielded_by _ c.next.new.self c.in-None.is c.next.ensures.steps in
     record {
       count = c.loop-w.invariant.place ∙ all.1;
