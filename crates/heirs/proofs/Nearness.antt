@@ -16,7 +16,8 @@ use Rattle.panel.specs.Masks.{on, bits_where}
 use Rattle.panel.specs.Rules.{head, valid_rule, covers, narrows}
 use Rattle.panel.specs.Transitions.{state, rests, spared}
 use Rattle.panel.specs.Contacts.{free, candidate, near, contact_place}
-use Rattle.panel.proofs.Masks.{on_or, on_less, off_zero, same_bits, bits_on, bits_lt}
+use lib.Pow.{pow_mono}
+use Rattle.panel.proofs.Masks.{and_less, on_or, on_less, off_zero, same_bits, bits_on, bits_lt}
 use Rattle.panel.proofs.Words.{rule_e, narrows_e}
 use Rattle.panel.proofs.Candidates.{added}
 use Rattle.panel.proofs.Near.{near_candidate}
@@ -42,9 +43,6 @@ near_on p b seen (r ∷ part) =
 -- a rule of the part has the head
 pub in_head : (b : ℕ) (part : List ℕ) (k : ℕ) → all (λ r. eqb (head r) (head b)) part ≡ true → k < length part → head (get_or part k 0) ≡ head b
 in_head b part k e l = eqb-true (head (get_or part k 0)) (head b) (all_e (λ r. eqb (head r) (head b)) (at_in part k l) e)
-
-pub pass_start : (b : ℕ) (part : List ℕ) → near_all b 0 (drop 0 part) ≡ near_all b 0 part
-pass_start b part = refl
 
 pub pass_more : (b seen k x : ℕ) (part : List ℕ) → k < length part → x ≡ near b (get_or part k 0) → near_all b seen (drop k part) ≡ near_all b 0 part
     → near_all b (bit_or seen x) (drop (k + 1) part) ≡ near_all b 0 part
@@ -101,14 +99,15 @@ module _ (n t b : ℕ) (small : n ≤ 10) (rb : valid_rule n b ≡ true) (hit : 
 
   -- the free relays whose contact no rule has alone beyond b are those of the heirs
   pub heir_bits : (seen i frees barred : ℕ) (part : List ℕ) → seen ≡ near_all b 0 part → i ≡ state t → frees ≡ bits_where n (λ v. free v b)
-      → barred ≡ bits_where 10 (λ v. on (contact_place v i) seen) → frees - bit_and frees barred ≡ heir_mask n t b part
+      → barred ≡ bits_where 10 (λ v. on (contact_place v i) seen) → bit_and frees (4294967295 - barred) ≡ heir_mask n t b part
   unfolding heir_mask
   heir_bits seen i frees barred part es ei eo eb =
-      same_bits n (frees - bit_and frees barred) (bits_where n (λ v. heir_by t b v part)) (omega (arith, eo, bits_lt n (λ v. free v b))) (bits_lt n (λ v. heir_by t b v part))
+      rw (and_less frees barred (omega (arith, eo, bits_lt n (λ v. free v b), pow_mono {j = 10} small)) (omega (arith, eb, bits_lt 10 (λ v. on (contact_place v i) seen))))
+      (same_bits n (frees - bit_and frees barred) (bits_where n (λ v. heir_by t b v part)) (omega (arith, eo, bits_lt n (λ v. free v b))) (bits_lt n (λ v. heir_by t b v part))
       (λ v l.
       on_less v frees barred
       ∙ ap₂ (λ (x y : Bool). x && not y)
       (ap (on v) eo ∙ bits_on n (λ u. free u b) v l)
       (ap (on v) eb ∙ bits_on 10 (λ u. on (contact_place u i) seen) v (omega arith))
       ∙ heir_seen v seen i part l es ei
-      ∙ sym (bits_on n (λ u. heir_by t b u part) v l))
+      ∙ sym (bits_on n (λ u. heir_by t b u part) v l)))

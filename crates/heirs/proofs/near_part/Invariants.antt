@@ -1,12 +1,8 @@
--- What the loop of this function keeps.
+-- What was seen so far, with the rules that are left, gives what the whole part gives.
 use mathlib.Core.Path.{◌≡◌}
-use Prim.Native.Nat.{◌≤◌, ◌-◌}
-use lib.ListN.{length, drop}
+use lib.ListN.{drop}
 use Rattle.heirs.specs.Heirs.{near_all}
 use Rattle.heirs.proofs.near_part.Given as goal
 
-abbrev pub invariant-loop-k : goal.invariant-loop-k
-invariant-loop-k l = (l.k ≤ length l.part) × (near_all l.b l.seen (drop l.k l.part) ≡ near_all l.b 0 l.part)
-
-abbrev pub decreases-loop-k : goal.decreases-loop-k
-decreases-loop-k l = length l.part - l.k
+abbrev pub invariant-loop-r : goal.invariant-loop-r
+invariant-loop-r l = near_all l.b l.seen (drop l.r-index l.part) ≡ near_all l.b 0 l.part
