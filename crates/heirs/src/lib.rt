@@ -7,6 +7,8 @@ ghost use Rattle.table.specs.Lists.{all};
 ghost use Rattle.panel.specs.Transitions.{spared};
 ghost use Rattle.heirs.specs.Heirs.{heir_mask, near_all};
 
+use panel::PanelSize;
+
 // The contacts that single rules of the part have beyond b, as bits of the word. All are rules of its head.
 #[tactic(auto, using(crate::proofs::Nearness::in_head, crate::proofs::Nearness::pass_more, crate::proofs::Nearness::pass_end))]
 fn near_part(part: &[u32], b: u32) -> u32
@@ -21,8 +23,8 @@ fn near_part(part: &[u32], b: u32) -> u32
 }
 
 // The relays below n whose candidates of the hit rule b are heirs, as far as the part, rules of its head, tells.
-pub fn heir_mask(part: &[u32], n: u32, t: u32, b: u32) -> u32
-    requires { (n ≤ 10) × (valid_rule n b ≡ true) × (spared t b ≡ false) × (all (λ r. eqb (head r) (head b)) part.now ≡ true) }
+pub fn heir_mask(part: &[u32], n: PanelSize, t: u32, b: u32) -> u32
+    requires { (valid_rule n b ≡ true) × (spared t b ≡ false) × (all (λ r. eqb (head r) (head b)) part.now ≡ true) }
     ensures { result ≡ heir_mask n t b part.now }
 {
     let seen = near_part(part, b);
