@@ -14,14 +14,14 @@ returns-in_default c =
     barren_done _ _ _ _ _ _ _ c.in_default.ensures (removed_table _ _ _ _ c.requires.1 c.requires.2 c.requires.3 c.remove_at.ensures)
 
 pub candidate_on-c-requires : goal.candidate_on-c-requires
-candidate_on-c-requires c = (omega (arith, (omega arith), c.in-Some.ensures.0), c.requires.0)
+candidate_on-c-requires c = (omega (arith, c.in-Some.ensures.0), c.requires.0)
 
 pub replace_at-requires : goal.replace_at-requires
 replace_at-requires c =
     (c.requires.1, c.requires.2, c.requires.3, subst (λ (k : ℕ). get_or c.args.sheet.now c.args.at 0 < k) (sym c.candidate_on-c.ensures) (candidate_above _ _ _))
 
 pub power-requires : goal.power-requires
-power-requires c = omega (arith, (omega arith), c.in-Some.ensures.0)
+power-requires c = omega (arith, c.in-Some.ensures.0)
 
 pub overflow_sub-mask : goal.overflow_sub-mask
 overflow_sub-mask c =
@@ -32,7 +32,7 @@ pub plant-requires : goal.plant-requires
 plant-requires c =
     let first = c.in-Some.ensures in
     let h = replaced_holds _ _ _ _ _ c.requires.1 c.requires.2 c.requires.3 c.replace_at.ensures in
-    ((omega arith), c.requires.0, h.fits, swap_can _ _ _ _ _ _ _ _ _ _ first.1 first.0 c.candidate_on-c.ensures c.power.ensures.0 h c.requires.4)
+    (c.requires.0, h.fits, swap_can _ _ _ _ _ _ _ _ _ _ first.1 first.0 c.candidate_on-c.ensures c.power.ensures.0 h c.requires.4)
 
 pub returns : goal.returns
 returns c =

@@ -1,4 +1,5 @@
 -- `sheet::take_rules` meets its contract.
+use native.Mathlib.Omega.{arith}
 use mathlib.Core.Path.{sym}
 use lib.Seq.{length-take-le}
 use Rattle.sheet.proofs.Sweeps.{first_can, second_can, both_done}
@@ -6,12 +7,12 @@ use Rattle.sheet.proofs.take_rules.Goals as goal
 
 pub sweep-have-requires : goal.sweep-have-requires
 sweep-have-requires c =
-    (c.requires.0, first_can _ (omega arith) _ _ c.requires.1 _ c.requires.2 _ (sym (length-take-le _ _ c.requires.0)) c.requires.0)
+    (c.requires.0, first_can c.args.n (omega arith) _ _ c.requires.1 _ c.requires.2 _ (sym (length-take-le _ _ c.requires.0)) c.requires.0)
 
 pub sweep-requires : goal.sweep-requires
 sweep-requires c =
-    (c.sweep-have.ensures.fits, second_can _ (omega arith) _ _ c.requires.1 _ c.requires.2 _ (sym (length-take-le _ _ c.requires.0)) c.requires.0 _ _ c.sweep-have.ensures)
+    (c.sweep-have.ensures.fits, second_can c.args.n (omega arith) _ _ c.requires.1 _ c.requires.2 _ (sym (length-take-le _ _ c.requires.0)) c.requires.0 _ _ c.sweep-have.ensures)
 
 pub returns : goal.returns
 returns c =
-    both_done _ (omega arith) _ _ c.requires.1 _ c.requires.2 _ (sym (length-take-le _ _ c.requires.0)) c.requires.0 _ _ c.sweep-have.ensures _ _ c.sweep.ensures
+    both_done c.args.n (omega arith) _ _ c.requires.1 _ c.requires.2 _ (sym (length-take-le _ _ c.requires.0)) c.requires.0 _ _ c.sweep-have.ensures _ _ c.sweep.ensures

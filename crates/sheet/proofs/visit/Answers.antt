@@ -13,7 +13,7 @@ slice_bounds-heirs_of-end-2 c = sym (length-take-le _ _ c.requires.fits)
 
 pub heirs_of-mask-requires : goal.heirs_of-mask-requires
 heirs_of-mask-requires c =
-    (c.requires.size, c.requires.sorted, c.requires.rule, sym c.is_spared.ensures ∙ c.if-is_spared.false)
+    (c.requires.sorted, c.requires.rule, sym c.is_spared.ensures ∙ c.if-is_spared.false)
 
 pub returns-then-not-goes : goal.returns-then-not-goes
 returns-then-not-goes c =
@@ -21,7 +21,7 @@ returns-then-not-goes c =
 
 pub replant-requires : goal.replant-requires
 replant-requires c =
-    (c.requires.size, rule_small _ _ c.requires.size _ refl c.requires.rule, c.requires.inside, c.requires.fits, c.requires.sorted, visit_can _ _ _ _ c.args.sheet.now c.args.have _ c.is_spared.ensures c.if-is_spared.false _ c.heirs_of-mask.ensures _ c.goes.ensures c.if-not-goes.false c.requires.plants _ c.state_of.ensures)
+    (rule_small _ _ c.requires.size _ refl c.requires.rule, c.requires.inside, c.requires.fits, c.requires.sorted, visit_can _ _ _ _ c.args.sheet.now c.args.have _ c.is_spared.ensures c.if-is_spared.false _ c.heirs_of-mask.ensures _ c.goes.ensures c.if-not-goes.false c.requires.plants _ c.state_of.ensures)
 
 pub returns : goal.returns
 returns c =
