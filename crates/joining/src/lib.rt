@@ -7,6 +7,7 @@ ghost use Rattle.answers.specs.declared.Refusal.TheVariants.{Counts};
 ghost use Rattle.joining.specs.Joining.{piece, exceeds, book_in, sheet_in, join_code, Joined};
 
 use answers::{Answer, Refusal};
+use panel::PanelSize;
 
 // A piece as it is lent, with how many words of its book and of its sheet are in use.
 #[derive(Clone, Copy)]
@@ -50,9 +51,7 @@ fn judge<'a>(
     ensures books { IfOk result (λ r. (r.0.book.now ≡ take a.entry.book_count a.entry.book.now) × (r.1.book.now ≡ take b.entry.book_count b.entry.book.now)) }
     ensures sheets { IfOk result (λ r. (r.0.sheet.now ≡ take a.entry.sheet_count a.entry.sheet.now) × (r.1.sheet.now ≡ take b.entry.sheet_count b.entry.sheet.now)) }
 {
-    if !panel::is_panel_size(n) {
-        return Err(Refusal::PanelSize);
-    }
+    let n = PanelSize::new(n).ok_or(Refusal::PanelSize)?;
     let a = a.in_use()?;
     let b = b.in_use()?;
     if !book::is_good_book(n, a.book) || !book::is_good_book(n, b.book) {
@@ -105,7 +104,7 @@ pub fn join(
         Ok((a, b)) => {
             let books = book::write_union(a.book, b.book, book);
             table::clear_from(book, books);
-            let sheets = walk::write_join(n, a.sheet, b.sheet, sheet);
+            let sheets = walk::write_join(PanelSize::of(n), a.sheet, b.sheet, sheet);
             table::clear_from(sheet, sheets);
             answers::done_answer(books, sheets, 0, 0)
         }
