@@ -1,31 +1,20 @@
 -- Laws of stretches of bytes, and of two lists of bytes that are the same.
-use Prim.Native.Nat.{ℕ, suc, ◌+◌, ◌-◌, ◌≤◌, ◌<◌}
+use Prim.Native.Nat.{ℕ, suc, ◌+◌, ◌-◌, ◌≤◌}
 use mathlib.Core.Path.{◌≡◌, refl, sym, ◌∙◌, ap}
 use mathlib.Core.List.{List, [], ◌∷◌}
-use mathlib.Core.Bool.{Bool, true, false, cond}
+use mathlib.Core.Bool.{Bool, true, false, cond, not, ◌&&◌}
 use native.Mathlib.Omega.{arith}
-use native.Mathlib.Numerals.{add-one}
 use native.Mathlib.Nat.{add-sub_cancel_left}
 use lib.Dec.{eqb}
-use lib.ListN.{length, get_or, take, drop, drop_of_length-le}
-use lib.Seq.{drop-cons, drop-drop}
-use borrow.Author.Tests.{eq-eqb, ne_eqb}
+use lib.ListN.{length, take, drop, length-drop}
+use lib.Seq.{drop-drop, take_all}
+use borrow.Author.Tests.{ltb-false}
+use Rattle.std.specs.Prelude.{Option, Some, None, nat_eq, nat_lt}
+use Rattle.std.specs.List.{position_or_len, position}
+use Rattle.std.specs.Cmp.Lexicographic.{pointwise}
 use Rattle.fields.specs.Bytes.{mark_of, is_in, run, same}
 use Rattle.fields.specs.declared.Stretch.{Stretch}
 use Rattle.fields.specs.declared.Stretch.TheVariants.{Gap, Field}
-
--- a stretch at a byte that belongs to it, at one that does not, and at the end
-pub run_in : (k : Stretch) (s : List ℕ) (i : ℕ) → i < length s → is_in k (mark_of (get_or s i 0)) ≡ true → run k (drop i s) ≡ run k (drop (i + 1) s) + 1
-unfolding run
-run_in k s i h e = rw (add-one i, drop-cons s i 0 h, e, add-one)
-
-pub run_out : (k : Stretch) (s : List ℕ) (i : ℕ) → i < length s → is_in k (mark_of (get_or s i 0)) ≡ false → run k (drop i s) ≡ 0
-unfolding run
-run_out k s i h e = rw (drop-cons s i 0 h, e)
-
-pub run_over : (k : Stretch) (s : List ℕ) (i : ℕ) → length s ≤ i → run k (drop i s) ≡ 0
-unfolding run
-run_over k s i h = rw (drop_of_length-le s h)
 
 pub run_le : (k : Stretch) (s : List ℕ) → run k s ≤ length s
 unfolding run
@@ -36,29 +25,51 @@ run_le k (b ∷ s) = go (is_in k (mark_of b)) (run_le k s)
     go true h = omega arith
     go false h = omega arith
 
--- two lists that are the same up to an index
-pub same_in : (a b : List ℕ) (i : ℕ) → i < length a → i < length b → get_or a i 0 ≡ get_or b i 0 → same (drop i a) (drop i b) ≡ same (drop (i + 1) a) (drop (i + 1) b)
-unfolding same
-same_in a b i h k e = rw (drop-cons a i 0 h, drop-cons b i 0 k, add-one, eq-eqb _ _ e)
-
-pub same_out : (a b : List ℕ) (i : ℕ) → i < length a → i < length b → (get_or a i 0 ≡ get_or b i 0 → ⊥) → same (drop i a) (drop i b) ≡ false
-unfolding same
-same_out a b i h k e = rw (drop-cons a i 0 h, drop-cons b i 0 k, ne_eqb _ _ e)
-
-pub same_over : (a b : List ℕ) (i : ℕ) → length a ≤ i → length b ≤ i → same (drop i a) (drop i b) ≡ true
-unfolding same
-same_over a b i h k = rw (drop_of_length-le a h, drop_of_length-le b k)
-
-pub same_length : (a b : List ℕ) → (length a ≡ length b → ⊥) → same a b ≡ false
-unfolding same
-same_length [] [] h = absurd (h refl)
-same_length [] (y ∷ b) h = refl
-same_length (x ∷ a) [] h = refl
-same_length (x ∷ a) (y ∷ b) h = go (eqb x y) (same_length a b (λ e. h (ap suc e)))
+-- a stretch ends at the first byte that does not belong to it
+pub run_is : (k : Stretch) (s : List ℕ) → run k s ≡ position_or_len (λ b. not (is_in k (mark_of b))) s
+unfolding run
+run_is k [] = refl
+run_is k (b ∷ s) = go (is_in k (mark_of b)) (run_is k s)
   where
-    go : (t : Bool) → same a b ≡ false → cond t (same a b) false ≡ false
-    go true e = e
-    go false e = refl
+    go : (t : Bool) → run k s ≡ position_or_len (λ b. not (is_in k (mark_of b))) s
+        → cond t (suc (run k s)) 0 ≡ cond (not (not t)) (1 + position_or_len (λ b. not (is_in k (mark_of b))) s) 0
+    go true h = rw h (omega arith)
+    go false h = refl
+
+-- where the search for that byte ends, behind the place `from`
+module _ (k : Stretch) (s : List ℕ) (from : ℕ) (r : Option ℕ) (h : from ≤ length s)
+    (at : r ≡ position (λ b. not (is_in k (mark_of b))) (take (length s - from) (drop from s))) where
+  found : r ≡ cond (nat_lt (run k (drop from s)) (length (drop from s))) (Some (run k (drop from s))) None
+  found = at ∙ rw (take_all (length s - from) (drop from s) (rw length-drop (omega arith)), ← run_is k (drop from s))
+
+  pub run_some : (n : ℕ) → r ≡ Some n → (from + n ≡ from + run k (drop from s)) × (from + n ≤ length s)
+  run_some n e = go (nat_lt (run k (drop from s)) (length (drop from s))) (sym e ∙ found)
+    where
+      go : (t : Bool) → Some n ≡ cond t (Some (run k (drop from s))) None → (from + n ≡ from + run k (drop from s)) × (from + n ≤ length s)
+      go true f =
+          let q : n ≡ run k (drop from s) = cc in
+          (omega arith, omega (arith, run_le k (drop from s), length-drop from s))
+      go false f = absurd cc
+
+  pub run_none : r ≡ None → (length s ≡ from + run k (drop from s)) × (length s ≤ length s)
+  run_none e = go (nat_lt (run k (drop from s)) (length (drop from s))) refl (sym e ∙ found)
+    where
+      go : (t : Bool) → nat_lt (run k (drop from s)) (length (drop from s)) ≡ t → None ≡ cond t (Some (run k (drop from s))) None
+          → (length s ≡ from + run k (drop from s)) × (length s ≤ length s)
+      go true q f = absurd cc
+      go false q f = (omega (arith, run_le k (drop from s), length-drop from s, ltb-false (run k (drop from s)) (length (drop from s)) q), omega arith)
+
+-- `==` on bytes is this test
+pub same_is_eq : (a b : List ℕ) → same a b ≡ pointwise nat_eq a b
+unfolding same
+same_is_eq [] [] = refl
+same_is_eq [] (y ∷ b) = refl
+same_is_eq (x ∷ a) [] = refl
+same_is_eq (x ∷ a) (y ∷ b) = go (eqb x y) (same_is_eq a b)
+  where
+    go : (t : Bool) → same a b ≡ pointwise nat_eq a b → cond t (same a b) false ≡ (t && pointwise nat_eq a b)
+    go true h = h
+    go false h = refl
 
 -- what is left without the blanks in front; the field in front, and what follows it
 unfoldable pub bare : List ℕ → List ℕ

@@ -8,12 +8,11 @@ use native.Mathlib.Nat.{div-add-mod', zero-add}
 use lib.Dec.{ltb}
 use lib.ListN.{length, get_or, length-append, get_or-append}
 use borrow.Author.Tests.{le-leb, lt-ltb, le-ltb, ltb-true, ltb-false}
+use Rattle.std.specs.Prelude.{Option, Some}
 use Rattle.fields.specs.Bytes.{mark_of}
 use Rattle.fields.specs.Decimals.{decimal_from, decimal}
 use Rattle.fields.specs.Values.{digit_of, digits, number_of}
 use Rattle.fields.specs.declared.Mark.TheVariants.{Digit}
-use Rattle.fields.specs.declared.Number.{Number}
-use Rattle.fields.specs.declared.Number.TheVariants.{Value}
 use Rattle.fields.proofs.ValueLaws.{number_digits}
 
 -- the bound does not matter as long as it is large enough
@@ -48,29 +47,29 @@ pub digit_mark : (d : ℕ) → d < 10 → mark_of (48 + d) ≡ Digit d
 unfolding mark_of
 digit_mark d h = rw (le-leb 48 (48 + d) (omega arith), le-leb (48 + d) 57 (omega arith)) (ap Digit (omega arith))
 
-digits_append : (n : Number) (s t : List ℕ) → digits n (s ++ t) ≡ digits (digits n s) t
+digits_append : (n : Option ℕ) (s t : List ℕ) → digits n (s ++ t) ≡ digits (digits n s) t
 unfolding digits
 digits_append n [] t = refl
 digits_append n (b ∷ s) t = digits_append (digit_of n (mark_of b)) s t
 
-digit_last : (n : Number) (d : ℕ) → d < 10 → digits n ((48 + d) ∷ []) ≡ digit_of n (Digit d)
+digit_last : (n : Option ℕ) (d : ℕ) → d < 10 → digits n ((48 + d) ∷ []) ≡ digit_of n (Digit d)
 unfolding digits
 digit_last n d h = ap (λ (m : _). digit_of n m) (digit_mark d h)
 
-digits_decimal : (f v : ℕ) → v ≤ f → digits (Value 0) (decimal_from f v) ≡ Value v
+digits_decimal : (f v : ℕ) → v ≤ f → digits (Some 0) (decimal_from f v) ≡ Some v
 unfolding decimal_from
-digits_decimal zero v h = digit_last (Value 0) v (omega arith) ∙ ap Value (zero-add v)
+digits_decimal zero v h = digit_last (Some 0) v (omega arith) ∙ ap Some (zero-add v)
 digits_decimal (suc f) v h = go (ltb v 10) refl (λ l. digits_decimal f (v / 10) l)
   where
-    go : (t : Bool) → ltb v 10 ≡ t → (v / 10 ≤ f → digits (Value 0) (decimal_from f (v / 10)) ≡ Value (v / 10))
-        → digits (Value 0) (cond t ((48 + v) ∷ []) (decimal_from f (v / 10) ++ ((48 + v % 10) ∷ []))) ≡ Value v
-    go true e r = digit_last (Value 0) v (ltb-true v 10 e) ∙ ap Value (zero-add v)
+    go : (t : Bool) → ltb v 10 ≡ t → (v / 10 ≤ f → digits (Some 0) (decimal_from f (v / 10)) ≡ Some (v / 10))
+        → digits (Some 0) (cond t ((48 + v) ∷ []) (decimal_from f (v / 10) ++ ((48 + v % 10) ∷ []))) ≡ Some v
+    go true e r = digit_last (Some 0) v (ltb-true v 10 e) ∙ ap Some (zero-add v)
     go false e r =
         let l = ltb-false v 10 e in
-        digits_append (Value 0) (decimal_from f (v / 10)) ((48 + v % 10) ∷ [])
-        ∙ ap (λ (n : Number). digits n ((48 + v % 10) ∷ [])) (r (omega arith))
-        ∙ digit_last (Value (v / 10)) (v % 10) (omega arith)
-        ∙ ap Value (div-add-mod' v 10)
+        digits_append (Some 0) (decimal_from f (v / 10)) ((48 + v % 10) ∷ [])
+        ∙ ap (λ (n : Option ℕ). digits n ((48 + v % 10) ∷ [])) (r (omega arith))
+        ∙ digit_last (Some (v / 10)) (v % 10) (omega arith)
+        ∙ ap Some (div-add-mod' v 10)
 
 -- there is a first digit, and it is 0 only of 0 itself
 decimal_some : (f v : ℕ) → 1 ≤ length (decimal_from f v)
@@ -95,12 +94,12 @@ first_digit (suc f) v h k = go (ltb v 10) refl (λ l m. first_digit f (v / 10) l
         rw (get_or-append (decimal_from f (v / 10)) ((48 + v % 10) ∷ []) 0 0 (decimal_some f (v / 10))) (r (omega arith) (omega arith))
 
 -- reading a number that was written gives it back
-pub number_decimal : (v : ℕ) → number_of (decimal v) ≡ Value v
+pub number_decimal : (v : ℕ) → number_of (decimal v) ≡ Some v
 unfolding decimal number_of decimal_from
 number_decimal zero = digits_decimal 0 0 (omega arith)
 number_decimal (suc v) =
     sym (number_digits (decimal_from (suc v) (suc v)) (λ e. none (length (decimal_from (suc v) (suc v))) (decimal_some (suc v) (suc v)) e)
-    (λ e. lead (get_or (decimal_from (suc v) (suc v)) 0 0) (first_digit (suc v) (suc v) (omega arith) (omega arith)) e))
+    (λ _ e. lead (get_or (decimal_from (suc v) (suc v)) 0 0) (first_digit (suc v) (suc v) (omega arith) (omega arith)) e))
     ∙ digits_decimal (suc v) (suc v) (omega arith)
   where
     none : (n : ℕ) → 1 ≤ n → n ≡ 0 → ⊥
@@ -112,7 +111,7 @@ number_decimal (suc v) =
 -- two numbers that are written the same are the same
 pub decimal_unique : (v w : ℕ) → decimal v ≡ decimal w → v ≡ w
 decimal_unique v w h =
-    let e : Value v ≡ Value w = sym (number_decimal v) ∙ ap number_of h ∙ number_decimal w in
+    let e : Some v ≡ Some w = sym (number_decimal v) ∙ ap number_of h ∙ number_decimal w in
     cc
 
 -- every byte of a list is a digit

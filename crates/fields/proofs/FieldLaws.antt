@@ -1,5 +1,5 @@
 -- Laws of the fields of a line.
-use Prim.Native.Nat.{ℕ, suc, ◌+◌, ◌-◌, ◌≤◌, ◌<◌}
+use Prim.Native.Nat.{ℕ, suc, ◌+◌, ◌-◌, ◌≤◌, ◌<◌, min}
 use mathlib.Core.Path.{◌≡◌, refl, sym, ◌∙◌, ap}
 use mathlib.Core.List.{List, [], ◌∷◌, ◌++◌, append-nil, append_assoc}
 use mathlib.Core.Bool.{Bool, true, false, cond, not}
@@ -10,7 +10,7 @@ use lib.ListN.{length, take, drop, length-take, length-drop, drop_of_length-le}
 use lib.Seq.{drop-drop, take-nil}
 use borrow.Author.Tests.{ltb-true, ltb-false}
 use Rattle.fields.specs.Bytes.{mark_of, space_mark, run}
-use Rattle.fields.specs.Fields.{close, fields_from, fields_in, only_of, Spans}
+use Rattle.fields.specs.Fields.{close, fields_from, fields_in, Spans}
 use Rattle.fields.specs.declared.Span.{Span}
 use Rattle.fields.specs.declared.Stretch.TheVariants.{Gap, Field}
 use Rattle.fields.proofs.TextLaws.{rest_is}
@@ -116,15 +116,21 @@ module _ (s : List ℕ) (r : Span) (h : Spans s 0 r) where
       (λ l. rw (rest_is s r.to) (span_some s 0 r h l))
       (end_or r.from (length s) h.start_in)
 
--- the only field
-module _ (s : List ℕ) (p : Span) (hp : Spans s 0 p) (q : Span) (hq : Spans s p.to q) where
-  pub only_more : q.from < length s → take 0 s ≡ only_of (fields_in s)
-  only_more h =
-      rw (span_some s 0 p hp (omega (arith, hq.starts, hp.ends)), span_some s p.to q hq h)
+-- a line has no more fields than bytes
+close_few : (f : List ℕ) (fs : List (List ℕ)) → length (close f fs) ≤ length fs + min 1 (length f)
+close_few [] fs = omega arith
+close_few (b ∷ f) fs = omega arith
 
-  pub only_one : length s ≤ q.from → take (p.to - p.from) (drop p.from s) ≡ only_of (fields_in s)
-  only_one h =
-      ⊎_elim
-      (λ e. rw (span_none s 0 p hp e, drop_of_length-le s {i = p.from} (omega arith), take-nil))
-      (λ l. rw (span_some s 0 p hp l, span_none s p.to q hq (omega (arith, hq.start_in))))
-      (end_or p.from (length s) hp.start_in)
+from_few : (f s : List ℕ) → length (fields_from f s) ≤ length s + min 1 (length f)
+unfolding fields_from
+from_few f [] = close_few f []
+from_few f (b ∷ s) = go (space_mark (mark_of b)) (from_few [] s) (from_few (f ++ b ∷ []) s)
+  where
+    go : (t : Bool) → length (fields_from [] s) ≤ length s + min 1 (length {A = ℕ} []) → length (fields_from (f ++ b ∷ []) s) ≤ length s + min 1 (length (f ++ b ∷ []))
+        → length (cond t (close f (fields_from [] s)) (fields_from (f ++ b ∷ []) s)) ≤ suc (length s) + min 1 (length f)
+    go true h k = omega (arith, close_few f (fields_from [] s))
+    go false h k = omega arith
+
+pub fields_few : (s : List ℕ) → length (fields_in s) ≤ length s
+unfolding fields_in
+fields_few s = omega (arith, from_few [] s)

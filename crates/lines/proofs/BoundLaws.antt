@@ -7,15 +7,13 @@ use native.Mathlib.Omega.{arith}
 use lib.Dec.{eqb, leb, ltb}
 use lib.ListN.{length}
 use borrow.Author.Tests.{eqb-true, eqb-false, leb-true, ltb-false}
+use Rattle.std.specs.Prelude.{Option, Some, None}
 use Rattle.fields.specs.Bytes.{mark_of, same}
 use Rattle.fields.specs.Fields.{only_of}
 use Rattle.fields.specs.Values.{cube_of, number_of}
 use Rattle.fields.specs.declared.Mark.{Mark}
 use Rattle.fields.specs.declared.Mark.TheVariants.{Digit, Dash, Space, Hash, Dot, Feed, Other}
-use Rattle.fields.specs.declared.Cube.{Cube}
-use Rattle.fields.specs.declared.Cube.TheVariants.{Columns, NoCube}
-use Rattle.fields.specs.declared.Number.{Number}
-use Rattle.fields.specs.declared.Number.TheVariants.{Value, NoNumber}
+use Rattle.fields.specs.declared.Columns.{Columns}
 use Rattle.fields.proofs.FieldLaws.{ne_lt}
 use Rattle.fields.proofs.ValueLaws.{Under, cube_under}
 use Rattle.lines.specs.Lines.{key_of, columns_of, sized_of, named_of, typed_of, count_of, stop_of, key_line, row_of, row_line, start_line, class_of, of_fields, line_of, keep_line, view_of}
@@ -28,7 +26,7 @@ use Rattle.lines.specs.declared.Masks.{Masks}
 use Rattle.lines.specs.declared.Kind.{Kind}
 use Rattle.lines.specs.declared.Kind.TheVariants.{Recording, Sheet}
 use Rattle.lines.specs.declared.Key.{Key}
-use Rattle.lines.specs.declared.Key.TheVariants.{Size, Names, TypeWord, Count, Stop, NoKey}
+use Rattle.lines.specs.declared.Key.TheVariants.{Size, Names, TypeWord, Count, Stop}
 use Rattle.lines.specs.declared.Line.{Line}
 use Rattle.lines.specs.declared.Line.TheVariants.{Empty, Sized, Named, Typed, Rows, Row, End, Fault}
 
@@ -47,37 +45,32 @@ some_columns : (n : ℕ) → eqb n 0 ≡ false → 1 ≤ n
 some_columns n e = ne_lt 0 n (omega arith) (λ z. eqb-false n 0 e (sym z))
 
 module _ (ns : List (List ℕ)) where
-  said_size : (p : Part) (n : Number) → Said ns (sized_of p (columns_of n))
-  said_size p NoNumber = faulty
-  said_size p (Value v) = few (ltb 10 v) refl
+  said_size : (p : Part) (n : Option ℕ) → Said ns (sized_of p (columns_of n))
+  said_size p None = faulty
+  said_size p (Some v) = some (eqb v 0) refl (ltb 10 v) refl
     where
-      some : (t : Bool) → eqb v 0 ≡ t → v ≤ 10 → Said ns (cond t Fault (Sized p v))
-      some true e h = faulty
-      some false e h = sized p v (some_columns v e) h
-
-      few : (t : Bool) → ltb 10 v ≡ t → Said ns (sized_of p (cond t 0 v))
-      few true e = faulty
-      few false e = some (eqb v 0) refl (ltb-false 10 v e)
+      some : (t : Bool) → eqb v 0 ≡ t → (u : Bool) → ltb 10 v ≡ u → Said ns (sized_of p (cond t None (cond u None (Some v))))
+      some true e u f = faulty
+      some false e true f = faulty
+      some false e false f = sized p v (some_columns v e) (ltb-false 10 v f)
 
   said_names : (p : Part) → Said ns (named_of p (columns_of (names_count ns)))
   unfolding names_count
   said_names p = go (good_names ns) refl (length ns) refl
     where
-      some : (v : ℕ) → good_names ns ≡ true → length ns ≡ v → v ≤ 10 → (t : Bool) → eqb v 0 ≡ t → Said ns (cond t Fault (Named p v))
-      some v g q h true e = faulty
-      some v g q h false e = names p v (some_columns v e) h g q
+      some : (v : ℕ) → good_names ns ≡ true → length ns ≡ v → (t : Bool) → eqb v 0 ≡ t → (u : Bool) → ltb 10 v ≡ u
+          → Said ns (named_of p (cond t None (cond u None (Some v))))
+      some v g q true e u f = faulty
+      some v g q false e true f = faulty
+      some v g q false e false f = names p v (some_columns v e) (ltb-false 10 v f) g q
 
-      few : (v : ℕ) → good_names ns ≡ true → length ns ≡ v → (t : Bool) → ltb 10 v ≡ t → Said ns (named_of p (cond t 0 v))
-      few v g q true e = faulty
-      few v g q false e = some v g q (ltb-false 10 v e) (eqb v 0) refl
-
-      go : (t : Bool) → good_names ns ≡ t → (v : ℕ) → length ns ≡ v → Said ns (named_of p (columns_of (cond t (Value v) NoNumber)))
+      go : (t : Bool) → good_names ns ≡ t → (v : ℕ) → length ns ≡ v → Said ns (named_of p (columns_of (cond t (Some v) None)))
       go false g v q = faulty
-      go true g v q = few v g q (ltb 10 v) refl
+      go true g v q = some v g q (eqb v 0) refl (ltb 10 v) refl
 
-  said_count : (n : Number) → Said ns (count_of n)
-  said_count (Value v) = counts v
-  said_count NoNumber = faulty
+  said_count : (n : Option ℕ) → Said ns (count_of n)
+  said_count (Some v) = counts v
+  said_count None = faulty
 
   said_type : (v : List ℕ) → Said ns (typed_of v)
   unfolding typed_of
@@ -92,18 +85,18 @@ module _ (ns : List (List ℕ)) where
   said_stop [] = ends
   said_stop (f ∷ fs) = faulty
 
-  said_key : (k : Key) → Said ns (key_line k ns)
-  said_key (Size p) = said_size p (number_of (only_of ns))
-  said_key (Names p) = said_names p
-  said_key TypeWord = said_type (only_of ns)
-  said_key Count = said_count (number_of (only_of ns))
-  said_key Stop = said_stop ns
-  said_key NoKey = faulty
+  said_key : (k : Option Key) → Said ns (key_line k ns)
+  said_key (Some (Size p)) = said_size p (number_of (only_of ns))
+  said_key (Some (Names p)) = said_names p
+  said_key (Some TypeWord) = said_type (only_of ns)
+  said_key (Some Count) = said_count (number_of (only_of ns))
+  said_key (Some Stop) = said_stop ns
+  said_key None = faulty
 
-  said_cells : (a b : Cube) (w : ℕ) → 1 ≤ w → w ≤ 10 → Under a (2 ^ w) → Under b (2 ^ w) → Said ns (row_of a b w)
-  said_cells NoCube b w o h u v = faulty
-  said_cells (Columns on off d) NoCube w o h u v = faulty
-  said_cells (Columns on off d) (Columns next rest unread) w o h u v =
+  said_cells : (a b : Option Columns) (w : ℕ) → 1 ≤ w → w ≤ 10 → Under a (2 ^ w) → Under b (2 ^ w) → Said ns (row_of a b w)
+  said_cells None b w o h u v = faulty
+  said_cells (Some a) None w o h u v = faulty
+  said_cells (Some a) (Some b) w o h u v =
       cells _ (record { some = o; few = h; on_small = u.0; off_small = u.1; next_small = v.0; unread_small = v.2 })
 
   said_row : (w v : List ℕ) → 1 ≤ length w → Said ns (row_line w v)

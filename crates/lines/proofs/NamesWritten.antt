@@ -7,12 +7,11 @@ use native.Mathlib.Omega.{arith}
 use lib.Dec.{eqb, leb}
 use lib.ListN.{length}
 use borrow.Author.Tests.{le-leb, leb-true, eqb-true, ne_eqb, le-ltb}
+use Rattle.std.specs.Prelude.{Option, Some}
 use Rattle.fields.specs.Bytes.{mark_of, space_mark, hash_mark, feed_mark, run, same}
 use Rattle.fields.specs.Texts.{body}
 use Rattle.fields.specs.Fields.{fields_from, fields_in}
 use Rattle.fields.specs.declared.Mark.TheVariants.{Digit, Other}
-use Rattle.fields.specs.declared.Number.{Number}
-use Rattle.fields.specs.declared.Number.TheVariants.{Value}
 use Rattle.fields.proofs.JoinLaws.{NoFeed}
 use Rattle.names.specs.Names.{name_byte, good_names, names_count, names_in, OfName, Names, spaced}
 use Rattle.names.proofs.Meaning.{good_iff}
@@ -94,12 +93,12 @@ module _ (ns : List (List ℕ)) (g : good_names ns ≡ true) where
   names_no_feed Ins = (refl, (refl, (refl, (refl, spaced_no_feed ns names))))
   names_no_feed Outs = (refl, (refl, (refl, spaced_no_feed ns names)))
 
-  counted : names_count ns ≡ Value (length ns)
+  counted : names_count ns ≡ Some (length ns)
   unfolding names_count
   counted = rw g refl
 
   named_of_lem : (p : Part) → 1 ≤ length ns → length ns ≤ 10 → named_of p (columns_of (names_count ns)) ≡ Named p (length ns)
-  named_of_lem p h k = ap (λ (x : Number). named_of p (columns_of x)) counted ∙ rw (le-ltb 10 (length ns) k, ne_eqb (length ns) 0 (nope (length ns) h))
+  named_of_lem p h k = ap (λ (x : Option ℕ). named_of p (columns_of x)) counted ∙ rw (ne_eqb (length ns) 0 (nope (length ns) h), le-ltb 10 (length ns) k)
     where
       nope : (n : ℕ) → 1 ≤ n → n ≡ 0 → ⊥
       nope n h e = omega arith

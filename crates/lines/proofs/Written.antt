@@ -5,12 +5,12 @@ use mathlib.Core.List.{List, [], ◌∷◌}
 use native.Mathlib.Omega.{arith}
 use lib.ListN.{length}
 use borrow.Author.Tests.{ne_eqb, le-ltb}
+use Rattle.std.specs.Prelude.{Option, Some}
 use Rattle.fields.specs.Bytes.{mark_of, run, same}
 use Rattle.fields.specs.Texts.{body}
 use Rattle.fields.specs.Fields.{fields_from, fields_in}
 use Rattle.fields.specs.Values.{number_of}
 use Rattle.fields.specs.Decimals.{decimal}
-use Rattle.fields.specs.declared.Number.{Number}
 use Rattle.fields.proofs.DecimalLaws.{AllDigits, decimal_all_digits, decimal_length, number_decimal}
 use Rattle.fields.proofs.JoinLaws.{NoFeed, digits_no_feed}
 use Rattle.lines.proofs.Clear.{Clear, digits_clear, clear_body, clear_alone}
@@ -30,15 +30,15 @@ module _ (s : List ℕ) (h : AllDigits s) (some : 1 ≤ length s) where
   clear : Clear s
   clear = digits_clear s h
 
-  ins_fields : line_of (keyed 105 s) ≡ key_line (Size Ins) (s ∷ [])
+  ins_fields : line_of (keyed 105 s) ≡ key_line (Some (Size Ins)) (s ∷ [])
   unfolding line_of body run mark_of fields_in fields_from of_fields class_of other_key key_of same
   ins_fields = rw (clear_body s clear, clear_alone s clear some)
 
-  outs_fields : line_of (keyed 111 s) ≡ key_line (Size Outs) (s ∷ [])
+  outs_fields : line_of (keyed 111 s) ≡ key_line (Some (Size Outs)) (s ∷ [])
   unfolding line_of body run mark_of fields_in fields_from of_fields class_of other_key key_of same
   outs_fields = rw (clear_body s clear, clear_alone s clear some)
 
-  count_fields : line_of (keyed 112 s) ≡ key_line Count (s ∷ [])
+  count_fields : line_of (keyed 112 s) ≡ key_line (Some Count) (s ∷ [])
   unfolding line_of body run mark_of fields_in fields_from of_fields class_of other_key key_of same
   count_fields = rw (clear_body s clear, clear_alone s clear some)
 
@@ -52,7 +52,7 @@ size_text Ins n = keyed 105 (decimal n)
 size_text Outs n = keyed 111 (decimal n)
 
 pub size_text_lem : (p : Part) (n : ℕ) → 1 ≤ n → n ≤ 10 → line_of (size_text p n) ≡ Sized p n
-size_text_lem p n h k = fields p ∙ ap (λ (x : Number). sized_of p (columns_of x)) (number_decimal n) ∙ rw (le-ltb 10 n k, ne_eqb n 0 (nope n h))
+size_text_lem p n h k = fields p ∙ ap (λ (x : Option ℕ). sized_of p (columns_of x)) (number_decimal n) ∙ rw (ne_eqb n 0 (nope n h), le-ltb 10 n k)
   where
     nope : (n : ℕ) → 1 ≤ n → n ≡ 0 → ⊥
     nope n h e = omega arith

@@ -1,63 +1,62 @@
 -- What one line says: its comment is cut, its first field says what kind of line it is, and the others follow.
-use Rattle.std.specs.Prelude.{ℕ, min, List, [], ◌∷◌, cond, eqb, leb, ltb, length}
+use Rattle.std.specs.Prelude.{ℕ, min, List, [], ◌∷◌, Option, Some, None, cond, eqb, leb, ltb, length}
 use Rattle.fields.specs.Bytes.{mark_of, same}
 use Rattle.fields.specs.Texts.{body}
 use Rattle.fields.specs.Fields.{fields_in, only_of}
 use Rattle.fields.specs.Values.{cube_of, number_of, most}
 use Rattle.fields.specs.declared.Mark.{Mark}
 use Rattle.fields.specs.declared.Mark.TheVariants.{Digit, Dash, Space, Hash, Dot, Feed, Other}
-use Rattle.fields.specs.declared.Cube.{Cube}
-use Rattle.fields.specs.declared.Cube.TheVariants.{Columns, NoCube}
-use Rattle.fields.specs.declared.Number.{Number}
-use Rattle.fields.specs.declared.Number.TheVariants.{Value, NoNumber}
+use Rattle.fields.specs.declared.Columns.{Columns}
 use Rattle.names.specs.Names.{names_count}
 use Rattle.lines.specs.declared.Part.{Part}
 use Rattle.lines.specs.declared.Part.TheVariants.{Ins, Outs}
 use Rattle.lines.specs.declared.Kind.TheVariants.{Recording, Sheet}
 use Rattle.lines.specs.declared.Key.{Key}
-use Rattle.lines.specs.declared.Key.TheVariants.{Size, Names, TypeWord, Count, Stop, NoKey}
+use Rattle.lines.specs.declared.Key.TheVariants.{Size, Names, TypeWord, Count, Stop}
 use Rattle.lines.specs.declared.View.{View}
 use Rattle.lines.specs.declared.View.TheVariants.{Cells, EndMark, Aside}
 use Rattle.lines.specs.declared.Line.{Line}
 use Rattle.lines.specs.declared.Line.TheVariants.{Empty, Sized, Named, Typed, Rows, Row, End, Fault}
 
 -- `.type`, `.p`, `.e` or `.end`
-unfoldable pub other_key : List ℕ → Key
+unfoldable pub other_key : List ℕ → Option Key
 other_key w =
-    cond (same w (46 ∷ 116 ∷ 121 ∷ 112 ∷ 101 ∷ [])) TypeWord
-    (cond (same w (46 ∷ 112 ∷ [])) Count
-    (cond (same w (46 ∷ 101 ∷ [])) Stop
-    (cond (same w (46 ∷ 101 ∷ 110 ∷ 100 ∷ [])) Stop NoKey)))
+    cond (same w (46 ∷ 116 ∷ 121 ∷ 112 ∷ 101 ∷ [])) (Some TypeWord)
+    (cond (same w (46 ∷ 112 ∷ [])) (Some Count)
+    (cond (same w (46 ∷ 101 ∷ [])) (Some Stop)
+    (cond (same w (46 ∷ 101 ∷ 110 ∷ 100 ∷ [])) (Some Stop) None)))
 
 -- `.i`, `.o`, `.ilb`, `.ob`, or one of the others
-unfoldable pub key_of : List ℕ → Key
+unfoldable pub key_of : List ℕ → Option Key
 key_of w =
-    cond (same w (46 ∷ 105 ∷ [])) (Size Ins)
-    (cond (same w (46 ∷ 111 ∷ [])) (Size Outs)
-    (cond (same w (46 ∷ 105 ∷ 108 ∷ 98 ∷ [])) (Names Ins)
-    (cond (same w (46 ∷ 111 ∷ 98 ∷ [])) (Names Outs) (other_key w))))
+    cond (same w (46 ∷ 105 ∷ [])) (Some (Size Ins))
+    (cond (same w (46 ∷ 111 ∷ [])) (Some (Size Outs))
+    (cond (same w (46 ∷ 105 ∷ 108 ∷ 98 ∷ [])) (Some (Names Ins))
+    (cond (same w (46 ∷ 111 ∷ 98 ∷ [])) (Some (Names Outs)) (other_key w))))
 
--- a number of columns: 1 to 10, else 0
-abbrev pub columns_of : Number → ℕ
-columns_of NoNumber = 0
-columns_of (Value v) = cond (ltb 10 v) 0 v
+-- a number of columns: 1 to 10
+abbrev pub columns_of : Option ℕ → Option ℕ
+columns_of None = None
+columns_of (Some v) = cond (eqb v 0) None (cond (ltb 10 v) None (Some v))
 
 -- `.i n` or `.o n`
-abbrev pub sized_of : Part → ℕ → Line
-sized_of p n = cond (eqb n 0) Fault (Sized p n)
+abbrev pub sized_of : Part → Option ℕ → Line
+sized_of p None = Fault
+sized_of p (Some n) = Sized p n
 
 -- `.ilb` or `.ob` with n names
-abbrev pub named_of : Part → ℕ → Line
-named_of p n = cond (eqb n 0) Fault (Named p n)
+abbrev pub named_of : Part → Option ℕ → Line
+named_of p None = Fault
+named_of p (Some n) = Named p n
 
 -- `.type fr` stands in a recording, `.type f` in a sheet
 unfoldable pub typed_of : List ℕ → Line
 typed_of v = cond (same v (102 ∷ 114 ∷ [])) (Typed Recording) (cond (same v (102 ∷ [])) (Typed Sheet) Fault)
 
 -- `.p k`, k of any length
-abbrev pub count_of : Number → Line
-count_of NoNumber = Fault
-count_of (Value v) = Rows v
+abbrev pub count_of : Option ℕ → Line
+count_of None = Fault
+count_of (Some v) = Rows v
 
 -- `.e` or `.end`, with no field after it
 abbrev pub stop_of : List (List ℕ) → Line
@@ -65,20 +64,20 @@ stop_of [] = End
 stop_of (f ∷ fs) = Fault
 
 -- a keyword and the fields after it
-abbrev pub key_line : Key → List (List ℕ) → Line
-key_line (Size p) fs = sized_of p (columns_of (number_of (only_of fs)))
-key_line (Names p) fs = named_of p (columns_of (names_count fs))
-key_line TypeWord fs = typed_of (only_of fs)
-key_line Count fs = count_of (number_of (only_of fs))
-key_line Stop fs = stop_of fs
-key_line NoKey fs = Fault
+abbrev pub key_line : Option Key → List (List ℕ) → Line
+key_line (Some (Size p)) fs = sized_of p (columns_of (number_of (only_of fs)))
+key_line (Some (Names p)) fs = named_of p (columns_of (names_count fs))
+key_line (Some TypeWord) fs = typed_of (only_of fs)
+key_line (Some Count) fs = count_of (number_of (only_of fs))
+key_line (Some Stop) fs = stop_of fs
+key_line None fs = Fault
 
 -- a row by the masks of its two fields, w columns wide
-abbrev pub row_of : Cube → Cube → ℕ → Line
-row_of NoCube b w = Fault
-row_of (Columns on off free) NoCube w = Fault
-row_of (Columns on off free) (Columns next rest unread) w =
-    Row (record { on = on; off = off; free = free; next = next; unread = unread; width = w })
+abbrev pub row_of : Option Columns → Option Columns → ℕ → Line
+row_of None b w = Fault
+row_of (Some a) None w = Fault
+row_of (Some a) (Some b) w =
+    Row (record { on = a.on; off = a.off; free = a.dashes; next = b.on; unread = b.dashes; width = w })
 
 -- a row: two fields of one width, at most ten
 unfoldable pub row_line : List ℕ → List ℕ → Line

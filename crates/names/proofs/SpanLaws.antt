@@ -1,5 +1,5 @@
 -- Where the fields of a line stand: one field after the other, and what stands at the place of a column's name is that name.
-use Prim.Native.Nat.{ℕ, zero, suc, ◌+◌, ◌-◌, ◌≤◌, ◌<◌}
+use Prim.Native.Nat.{ℕ, zero, suc, ◌+◌, ◌-◌, ◌≤◌}
 use mathlib.Core.Path.{◌≡◌, refl, sym, ◌∙◌, ap}
 use mathlib.Core.List.{List, [], ◌∷◌}
 use mathlib.Core.Logic.{⊎_elim}
@@ -44,13 +44,9 @@ span_spans s i h =
 
 -- ---- field number k: one field is passed, and the last is the field at the place
 
-pub field_more : (s : List ℕ) (i left : ℕ) (p : Span) → Spans s i p → 0 < left → field_at s p.to (left - 1) ≡ field_at s i left
+pub field_more : (s : List ℕ) (i left rest : ℕ) (p : Span) → Spans s i p → left ≡ suc rest → field_at s p.to rest ≡ field_at s i left
 unfolding field_at
-field_more s i zero p h l = absurd (omega arith)
-field_more s i (suc k) p h l = rw (span_is s i p h) (ap (λ (m : ℕ). field_at s (span_at s i).to m) (less k))
-  where
-    less : (k : ℕ) → suc k - 1 ≡ k
-    less k = omega arith
+field_more s i left rest p h e = rw (e, span_is s i p h)
 
 pub field_done : (s : List ℕ) (i left : ℕ) (p q : Span) → Spans s i p → left ≤ 0 → field_at s i left ≡ q → SpanIs s q p
 unfolding field_at

@@ -1,11 +1,9 @@
 -- The names of a name line: the fields after its first, as tests and as what they say.
-use Rattle.std.specs.Prelude.{ℕ, ◌-◌, ◌≤◌, ◌≡◌, List, [], ◌∷◌, ◌++◌, ◌⊎◌, Bool, true, false, cond, ◌&&◌, ◌||◌, eqb, leb, ltb, length, take, drop}
+use Rattle.std.specs.Prelude.{ℕ, ◌-◌, ◌≤◌, ◌≡◌, List, [], ◌∷◌, ◌++◌, ◌⊎◌, Option, Some, None, Bool, true, false, cond, ◌&&◌, ◌||◌, eqb, leb, ltb, length, take, drop}
 use Rattle.fields.specs.Bytes.{same}
 use Rattle.fields.specs.Texts.{body}
 use Rattle.fields.specs.Fields.{fields_in}
 use Rattle.fields.specs.declared.Span.{Span}
-use Rattle.fields.specs.declared.Number.{Number}
-use Rattle.fields.specs.declared.Number.TheVariants.{Value, NoNumber}
 
 -- a byte is one of lo to hi
 abbrev pub in_range : ℕ → ℕ → ℕ → Bool
@@ -35,8 +33,8 @@ good_names [] = true
 good_names (w ∷ ws) = cond (name_ok w) (cond (holds w ws) false (good_names ws)) false
 
 -- how many names there are, if they are good
-unfoldable pub names_count : List (List ℕ) → Number
-names_count ws = cond (good_names ws) (Value (length ws)) NoNumber
+unfoldable pub names_count : List (List ℕ) → Option ℕ
+names_count ws = cond (good_names ws) (Some (length ws)) None
 
 -- two lists of fields are equal, one by one
 unfoldable pub same_fields : List (List ℕ) → List (List ℕ) → Bool

@@ -11,8 +11,7 @@ use Rattle.panel.specs.Masks.{bit_if, bits_where}
 use Rattle.fields.specs.Bytes.{mark_of}
 use Rattle.fields.specs.Texts.{body}
 use Rattle.fields.specs.Fields.{fields_from, fields_in}
-use Rattle.fields.specs.Values.{column_of, cube_of}
-use Rattle.fields.specs.declared.Cube.TheVariants.{Columns}
+use Rattle.fields.specs.Values.{cube, column_of, cube_of}
 use Rattle.fields.proofs.JoinLaws.{NoFeed}
 use Rattle.lines.specs.Lines.{row_line, class_of, of_fields, line_of}
 use Rattle.lines.specs.declared.Masks.{Masks}
@@ -68,13 +67,13 @@ bits_front f (suc n) = omega (arith, bits_front f n, bit_up (f (suc n)) n)
 -- ---- the masks
 
 cell_front : (a b : Bool) (x y z : ℕ)
-    → column_of (mark_of (cell a b)) (Columns x y z) ≡ Columns (x * 2 + bit_if a 0) (y * 2 + bit_if (not a && b) 0) (z * 2 + bit_if (not a && not b) 0)
+    → column_of (mark_of (cell a b)) (cube x y z) ≡ cube (x * 2 + bit_if a 0) (y * 2 + bit_if (not a && b) 0) (z * 2 + bit_if (not a && not b) 0)
 unfolding mark_of
 cell_front true b x y z = simp add-zero
 cell_front false true x y z = simp add-zero
 cell_front false false x y z = simp add-zero
 
-cube_bits : (n : ℕ) (a b : ℕ → Bool) → cube_of (cells a b n) ≡ Columns (bits_where n a) (bits_where n (λ v. not (a v) && b v)) (bits_where n (λ v. not (a v) && not (b v)))
+cube_bits : (n : ℕ) (a b : ℕ → Bool) → cube_of (cells a b n) ≡ cube (bits_where n a) (bits_where n (λ v. not (a v) && b v)) (bits_where n (λ v. not (a v) && not (b v)))
 unfolding cube_of
 cube_bits zero a b = rw (columns_none (λ v. cell (a v) (b v))) (unfold bits_where in refl)
 cube_bits (suc n) a b =

@@ -1,22 +1,24 @@
 -- `fields::read_cube` meets its contract.
-use Prim.Native.Nat.{◌-◌}
-use Rattle.fields.proofs.ValueLaws.{cube_small, cube_nil, cube_at}
-use lib.ListN.{length-drop}
-use mathlib.Core.Path.{◌≡◌}
-use native.Mathlib.Nat.{sub-add_cancel}
-use native.Mathlib.Omega.{arith}
+use Rattle.std.proofs.Common.{[], ◌∷◌, sym, ap, ◌∙◌, append-nil}
+use Rattle.fields.specs.Values.{cube_of}
+use Rattle.fields.proofs.ValueLaws.{cube_nil, cube_few, cube_before, cube_more, cube_none}
 use Rattle.fields.proofs.read_cube.Goals as goal
 
-pub loop-i-init : goal.loop-i-init
-loop-i-init c = (omega arith, cube_nil c.args.s.now)
+pub loop-b-init : goal.loop-b-init
+loop-b-init c = ([], rw append-nil cc, cube_nil)
 
-pub column-c-requires : goal.column-c-requires
-column-c-requires c = rw c.loop-i.invariant.1 (cube_small _ (simp length-drop (omega arith)))
+pub column-requires : goal.column-requires
+column-requires c =
+    let at = c.loop-b.invariant in
+    rw (← at.2) at (cube_few _ _ _ at.0 _ c.requires at.1 c.in-Some.ensures.steps)
 
-pub loop-i-preserved : goal.loop-i-preserved
-loop-i-preserved c = let l = c.loop-i in
-    let s = c.args.s.now in
-    (omega arith, cc (cube_at s (l.i - 1) (omega arith), sub-add_cancel {n = l.i} {m = 1} (omega arith)))
+pub returns-in_err-c : goal.returns-in_err-c
+returns-in_err-c c =
+    let at = c.loop-b.invariant in
+    let none = c.in_err-c.ensures ∙ cube_more _ at.0 _ _ c.mark_of.ensures at.2 in
+    c.from_residual.ensures ∙ sym (ap cube_of (cube_before _ _ _ at.0 _ at.1 c.in-Some.ensures.steps) ∙ cube_none _ _ (sym none))
 
-pub returns : goal.returns
-returns c = let z : c.loop-i.i ≡ 0 = omega arith in rw z at c.loop-i.invariant.1
+pub loop-b-preserved : goal.loop-b-preserved
+loop-b-preserved c =
+    let at = c.loop-b.invariant in
+    (c.in-Some.field-0.now ∷ at.0, cube_before _ _ _ at.0 _ at.1 c.in-Some.ensures.steps, c.in_ok-c.ensures ∙ cube_more _ at.0 _ _ c.mark_of.ensures at.2)

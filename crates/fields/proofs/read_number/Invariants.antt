@@ -1,12 +1,7 @@
--- What the loop of this function keeps.
-use Prim.Native.Nat.{◌-◌, ◌≤◌}
-use Rattle.fields.specs.Values.{keep, number_of, digits}
-use lib.ListN.{length, drop}
-use mathlib.Core.Path.{◌≡◌}
+-- The number read so far, which is kept, goes on with the bytes left as the number of the field does.
+use Rattle.std.proofs.Common.{◌≡◌, ◌≤◌, drop, Some}
+use Rattle.fields.specs.Values.{digits, keep, number_of, most}
 use Rattle.fields.proofs.read_number.Given as goal
 
-abbrev pub invariant-loop-i : goal.invariant-loop-i
-invariant-loop-i l = (l.i ≤ length l.s) × (l.n ≡ keep l.n) × (keep (digits l.n (drop l.i l.s)) ≡ keep (number_of l.s))
-
-abbrev pub decreases-loop-i : goal.decreases-loop-i
-decreases-loop-i l = length l.s - l.i
+abbrev pub invariant-loop-b : goal.invariant-loop-b
+invariant-loop-b l = (l.n ≤ most) × (keep (digits (Some l.n) (drop l.b-index l.s)) ≡ keep (number_of l.s))

@@ -1,30 +1,19 @@
--- `fields::run_end` meets its contract.
-use Rattle.fields.proofs.ByteLaws.{run_in, run_out, run_over}
-use Rattle.fields.specs.Bytes.{is_in, mark_of}
-use borrow.Author.Tests.{not-true, not-false}
-use lib.ListN.{get_or}
-use mathlib.Core.Bool.{true, false}
-use mathlib.Core.Path.{◌≡◌}
-use native.Mathlib.Omega.{arith}
+-- `fields::run_end` meets its contract: the first byte that does not belong to the stretch ends it.
+use Rattle.std.proofs.Common.{not, rules, tests}
+use Rattle.std.proofs.lemmas.Iterator.{YieldsList-from_slice}
+use Rattle.std.proofs.lemmas.Iterator.Search.{position_from_yields_List}
+use Rattle.fields.specs.Bytes.{mark_of, is_in}
+use Rattle.fields.proofs.ByteLaws.{run_some, run_none}
 use Rattle.fields.proofs.run_end.Goals as goal
 
-pub returns-then-not-is_in : goal.returns-then-not-is_in
-returns-then-not-is_in c = let a = c.args in
-    let s = a.s.now in
-    let i = c.loop-i.i in
-    let e : is_in a.k (mark_of (get_or s i 0)) ≡ false = cc (not-true c.is_in.result c.if-not-is_in.true-raw) in
-    let z = run_out a.k s i (omega arith) e in
-    omega arith
+pub returns-in-Some : goal.returns-in-Some
+returns-in-Some c =
+    run_some c.args.k c.args.s.now c.args.from c.position.result c.requires
+    (position_from_yields_List (λ b. not (is_in c.args.k (mark_of b))) _ _ _ c.position.ensures.ran (YieldsList-from_slice _ c.iter.ensures.rest) (λ x b q k. search (rules, tests)))
+    c.in-Some.n c.in-Some.is
 
-pub loop-i-preserved : goal.loop-i-preserved
-loop-i-preserved c = let a = c.args in
-    let s = a.s.now in
-    let i = c.loop-i.i in
-    let e : is_in a.k (mark_of (get_or s i 0)) ≡ true = cc (not-false c.is_in.result c.if-not-is_in.false-raw) in
-    let z = run_in a.k s i (omega arith) e in
-    omega arith
-
-pub returns : goal.returns
-returns c = let a = c.args in
-    let z = run_over a.k a.s.now c.loop-i.i (omega arith) in
-    omega arith
+pub returns-in-None : goal.returns-in-None
+returns-in-None c =
+    run_none c.args.k c.args.s.now c.args.from c.position.result c.requires
+    (position_from_yields_List (λ b. not (is_in c.args.k (mark_of b))) _ _ _ c.position.ensures.ran (YieldsList-from_slice _ c.iter.ensures.rest) (λ x b q k. search (rules, tests)))
+    c.in-None.is

@@ -1,34 +1,17 @@
 -- `names::name_ok` meets its contract.
-use borrow.Author.Tests.{lt-ltb, le-ltb, eq-eqb, ne_eqb, not-true, not-false}
-use native.Mathlib.Omega.{arith}
-use mathlib.Core.Path.{sym, ◌∙◌}
-use Rattle.names.specs.Names.{name_ok}
-use Rattle.names.proofs.NameLaws.{name_in, name_out, name_over}
+use Rattle.std.proofs.Common.{rules, tests, arith, ◌∙◌}
+use Rattle.std.proofs.lemmas.Iterator.{YieldsList-from_slice}
+use Rattle.std.proofs.lemmas.Iterator.Search.{all_from_yields_List}
+use Rattle.std.proofs.lemmas.Grind.{common_steps}
+use Rattle.names.specs.Names.{name_byte}
+use Rattle.names.proofs.NameLaws.{name_ok_is, name_ok_short}
 use Rattle.names.proofs.name_ok.Goals as goal
 
-pub returns-then-w-eq0 : goal.returns-then-w-eq0
-unfolding name_ok
-returns-then-w-eq0 c = simp (eq-eqb _ _ c.if-w-eq0.true)
+pub returns-then-contains : goal.returns-then-contains
+returns-then-contains c =
+    let w = c.args.w.now in
+    all_from_yields_List name_byte _ _ _ c.all.ensures.ran (YieldsList-from_slice _ c.iter.ensures.rest) (λ x b q k. search (rules, tests))
+    ∙ name_ok_is w (search (rules, tests)) (search (rules, tests))
 
-pub returns-then-w-gt16 : goal.returns-then-w-gt16
-unfolding name_ok
-returns-then-w-gt16 c = simp (ne_eqb _ _ c.if-w-eq0.false, lt-ltb _ _ c.if-w-gt16.true)
-
-pub loop-i-init : goal.loop-i-init
-unfolding name_ok
-loop-i-init c = (omega arith, simp (ne_eqb _ _ c.if-w-eq0.false, le-ltb _ _ c.if-w-gt16.false))
-
-pub returns-then-not-name_byte : goal.returns-then-not-name_byte
-returns-then-not-name_byte c =
-    let args = c.args in
-    sym (sym c.loop-i.invariant.1 ∙ name_out args.w.now c.loop-i.i (omega arith) (sym c.name_byte.ensures ∙ not-true c.name_byte.result c.if-not-name_byte.true-raw))
-
-pub loop-i-preserved : goal.loop-i-preserved
-loop-i-preserved c =
-    let args = c.args in
-    (omega arith, sym (name_in args.w.now c.loop-i.i (omega arith) (sym c.name_byte.ensures ∙ not-false c.name_byte.result c.if-not-name_byte.false-raw)) ∙ c.loop-i.invariant.1)
-
-pub returns : goal.returns
-returns c =
-    let args = c.args in
-    sym (sym c.loop-i.invariant.1 ∙ name_over args.w.now c.loop-i.i (omega arith))
+pub returns-else-contains : goal.returns-else-contains
+returns-else-contains c = c.if-contains.false ∙ name_ok_short c.args.w.now (λ h. grind (arith, common_steps))

@@ -1,17 +1,7 @@
 -- `names::name_span` meets its contract.
-use mathlib.Core.Path.{sym}
-use lib.Seq.{length-take-le}
 use Rattle.names.proofs.SpanLaws.{name_at}
 use Rattle.names.proofs.name_span.Goals as goal
 
-pub slice_bounds-field_at-end : goal.slice_bounds-field_at-end
-slice_bounds-field_at-end c = sym (length-take-le _ _ c.run_end-c.ensures.1)
-
-pub slice_bounds-field_number-end : goal.slice_bounds-field_number-end
-slice_bounds-field_number-end c =
-    sym (length-take-le _ _ c.run_end-c.ensures.1)
-
 pub returns : goal.returns
 returns c =
-    let args = c.args in
-    name_at args.line.now c.run_end-c.result args.column c.field_at-p.result _ c.run_end-c.ensures.0 c.run_end-c.ensures.1 c.field_at-p.ensures c.field_number.ensures
+    name_at c.args.line.now c.run_end-c.result c.args.column c.field_at-keyword.result _ c.run_end-c.ensures.0 c.run_end-c.ensures.1 c.field_at-keyword.ensures c.field_number.ensures

@@ -1,14 +1,12 @@
--- What the loop of this function keeps.
-use mathlib.Core.Path.{◌≡◌}
-use Prim.Native.Nat.{◌≤◌, ◌-◌}
-use lib.ListN.{length, drop}
-use Rattle.fields.specs.Fields.{fields_in}
+-- The names counted so far, and the fields that are left, which count on as the fields of the line do.
+use Rattle.std.proofs.Common.{◌≡◌, ◌+◌, ◌≤◌, length}
+use Rattle.fields.specs.Fields.{fields_in, fields_left}
 use Rattle.names.specs.Names.{names_count}
 use Rattle.names.proofs.NameLaws.{count_from}
 use Rattle.names.proofs.names_count.Given as goal
 
-abbrev pub invariant-loop-i : goal.invariant-loop-i
-invariant-loop-i l = (l.i ≤ length l.s) × (l.n ≤ l.i) × (count_from l.n (fields_in (drop l.i l.s)) ≡ names_count (fields_in l.s))
+abbrev pub invariant-loop-w : goal.invariant-loop-w
+invariant-loop-w l = (l.count + length (fields_left l.left) ≤ length l.s) × (count_from l.count (fields_left l.left) ≡ names_count (fields_in l.s))
 
-abbrev pub decreases-loop-i : goal.decreases-loop-i
-decreases-loop-i l = length l.s - l.i
+abbrev pub decreases-loop-w : goal.decreases-loop-w
+decreases-loop-w l = length (fields_left l.left)
