@@ -64,6 +64,7 @@ pub enum View {
     Aside,
 }
 
+// The keywords: each is the first field of its line.
 const KEYS: [(&[u8], Key); 8] = [
     (b".i", Key::Size(Part::Ins)),
     (b".o", Key::Size(Part::Outs)),
@@ -96,6 +97,7 @@ fn columns_of(n: u64) -> Option<u32>
     }
 }
 
+// What a text is, by what stands behind `.type`.
 fn kind_of(v: &[u8]) -> Option<Kind>
     ensures { unwrap_or (option_map Line.Typed result) Line.Fault ≡ typed_of v.now }
 {

@@ -1,11 +1,6 @@
 -- `names::names_span` meets its contract.
-use mathlib.Core.Path.{sym}
-use lib.Seq.{length-take-le}
 use Rattle.names.proofs.NameLaws.{names_at}
 use Rattle.names.proofs.names_span.Goals as goal
-
-pub slice_bounds-field_at-end : goal.slice_bounds-field_at-end
-slice_bounds-field_at-end c = sym (length-take-le _ _ c.run_end-c.ensures.1)
 
 pub returns : goal.returns
 returns c =
