@@ -1,9 +1,11 @@
 -- Which rows fit a layout: the test says what the definition says. The search for the only relay that is on.
-use Prim.Native.Nat.{ℕ, zero, suc, ◌+◌, ◌-◌, ◌^◌, ◌≤◌, ◌<◌}
+use Prim.Native.Nat.{ℕ, zero, suc, ◌+◌, ◌^◌, ◌≤◌, ◌<◌}
 use mathlib.Core.Path.{◌≡◌, refl, sym, ◌∙◌, ap}
 use mathlib.Core.Bool.{Bool, true, false, cond, not, ◌||◌, false≢true}
 use native.Mathlib.Omega.{arith}
 use lib.Dec.{eqb, ltb}
+use Rattle.std.specs.Prelude.{Option, Some, None}
+use Rattle.std.specs.Option.{MatchOption, unwrap_or}
 use borrow.Author.Tests.{eq-eqb, eqb-true, eqb-false, ne_eqb, ltb-true, lt-ltb}
 use Rattle.table.proofs.Basics.{and_i, and_l, and_r}
 use Rattle.fields.proofs.FieldLaws.{ne_lt}
@@ -14,34 +16,36 @@ use Rattle.headers.specs.declared.Layout.{Layout}
 
 -- ---- the search
 
-pub only_here : (f h x : ℕ) → 1 ≤ f → x ≡ 2 ^ h → only_from f h x ≡ h
+only_here : (f h x : ℕ) → 1 ≤ f → x ≡ 2 ^ h → only_from f h x ≡ h
 unfolding only_from
 only_here zero h x l e = absurd (omega arith)
 only_here (suc f) h x l e = rw (eq-eqb x (2 ^ h) e)
 
-only_more : (f h x : ℕ) → 1 ≤ f → (x ≡ 2 ^ h → ⊥) → only_from f h x ≡ only_from (f - 1) (h + 1) x
+only_more : (f h x : ℕ) → (x ≡ 2 ^ h → ⊥) → only_from (suc f) h x ≡ only_from f (h + 1) x
 unfolding only_from
-only_more zero h x l e = absurd (omega arith)
-only_more (suc f) h x l e = rw (ne_eqb x (2 ^ h) e, pred f)
-  where
-    pred : (f : ℕ) → suc f - 1 ≡ f
-    pred f = omega arith
+only_more f h x e = rw (ne_eqb x (2 ^ h) e)
 
-only_over : (h x : ℕ) → only_from 0 h x ≡ h
+-- the first whose bit is the whole is found
+only_at : (f h x i : ℕ) → h ≤ i → i < h + f → x ≡ 2 ^ i → ((k : ℕ) → h ≤ k → k < i → x ≡ 2 ^ k → ⊥) → only_from f h x ≡ i
+only_at zero h x i l m e n = absurd (omega arith)
+only_at (suc f) h x i l m e n = go (eqb h i) refl (λ o. only_at f (h + 1) x i (omega arith) (omega arith) e (λ k p q. n k (omega arith) q))
+  where
+    go : (t : Bool) → eqb h i ≡ t → (h < i → only_from f (h + 1) x ≡ i) → only_from (suc f) h x ≡ i
+    go true q more = only_here (suc f) h x (omega arith) (e ∙ ap (λ (y : ℕ). 2 ^ y) (sym (eqb-true h i q))) ∙ eqb-true h i q
+    go false q more = let o : h < i = ne_lt h i l (eqb-false h i q) in only_more f h x (n h (omega arith) o) ∙ more o
+
+only_none : (f h x : ℕ) → ((k : ℕ) → h ≤ k → k < h + f → x ≡ 2 ^ k → ⊥) → only_from f h x ≡ h + f
 unfolding only_from
-only_over h x = refl
+only_none zero h x n = omega arith
+only_none (suc f) h x n = only_more f h x (n h (omega arith) (omega arith)) ∙ only_none f (h + 1) x (λ k p o. n k (omega arith) (omega arith)) ∙ omega arith
 
-pub only_step : (h x : ℕ) → h < 10 → (x ≡ 2 ^ h → ⊥) → only_from (10 - h) h x ≡ only_from (10 - (h + 1)) (h + 1) x
-only_step h x l e = only_more (10 - h) h x (omega arith) e ∙ ap (λ (f : ℕ). only_from f (h + 1) x) (less h l)
-  where
-    less : (h : ℕ) → h < 10 → 10 - h - 1 ≡ 10 - (h + 1)
-    less h l = omega arith
-
-pub only_end : (h x : ℕ) → h ≡ 10 → only_from (10 - h) h x ≡ only_on x → h ≡ only_on x
-only_end h x e p = sym (sym p ∙ ap (λ (f : ℕ). only_from f h x) (none h e) ∙ only_over h x)
-  where
-    none : (h : ℕ) → h ≡ 10 → 10 - h ≡ 0
-    none h e = omega arith
+-- as the code searches: the first of 0 to 9 whose bit is the whole, or 10
+pub only_first : (x : ℕ) (r : Option ℕ)
+    → MatchOption r ((k : ℕ) → 0 ≤ k → k < 10 → x ≡ 2 ^ k → ⊥) (λ i. (0 ≤ i) × (i < 10) × (x ≡ 2 ^ i) × ((k : ℕ) → 0 ≤ k → k < i → x ≡ 2 ^ k → ⊥))
+    → unwrap_or r 10 ≡ only_on x
+unfolding only_on
+only_first x None n = sym (only_none 10 0 x n)
+only_first x (Some i) n = sym (only_at 10 0 x i n.0 n.1 n.2 n.3)
 
 -- ---- what it finds
 

@@ -155,21 +155,6 @@ pub ready_e : (lay : Layout) (s : Seen) → ready_of lay s ≡ true → (h : Hea
 unfolding ready_of
 ready_e lay s r h = none_lacked lay s every_header r h (in_every h)
 
--- as the code asks: two headers at a time
-pub ready_pairs : (lay : Layout) (s : Seen)
-    → ready_of lay s ≡ (not (lacks lay s (Size Ins) || lacks lay s (Size Outs)) && (not (lacks lay s (Names Ins) || lacks lay s (Names Outs)) && not (lacks lay s TypeWord || lacks lay s Count)))
-unfolding ready_of lacks_none
-ready_pairs lay s = go (lacks lay s (Size Ins)) (lacks lay s (Size Outs)) (lacks lay s (Names Ins)) (lacks lay s (Names Outs)) (lacks lay s TypeWord) (lacks lay s Count)
-  where
-    go : (a b c d e f : Bool) → (not a && (not b && (not c && (not d && (not e && (not f && true)))))) ≡ (not (a || b) && (not (c || d) && not (e || f)))
-    go true b c d e f = refl
-    go false true c d e f = refl
-    go false false true d e f = refl
-    go false false false true e f = refl
-    go false false false false true f = refl
-    go false false false false false true = refl
-    go false false false false false false = refl
-
 -- ---- what a line that is allowed tells of the state
 
 pub open_e : (st : State) → open_of st ≡ true → (st.ended ≡ false) × (st.rows ≡ 0)

@@ -24,7 +24,7 @@ pub enum Header {
 }
 
 // Which headers stood there.
-#[derive(Clone, Copy)]
+#[derive(Clone, Copy, Default)]
 pub struct Seen {
     pub ins: bool,
     pub outs: bool,
@@ -36,7 +36,7 @@ pub struct Seen {
 
 // What is known after some lines: which headers stood there; the size, 0 where not given yet; the number of `.p` and its line;
 // how many rows; whether the end mark stood there.
-#[derive(Clone, Copy)]
+#[derive(Clone, Copy, Default)]
 pub struct State {
     pub seen: Seen,
     pub size: u32,

@@ -1,15 +1,12 @@
--- `judging::is_ready` meets its contract.
-use mathlib.Core.Path.{sym, ◌∙◌}
-use Rattle.headers.proofs.Seeing.{ready_pairs}
+use mathlib.Core.Bool.{not}
+use Rattle.std.proofs.Common.{rules}
+use borrow.Author.Tests.{tests}
+use Rattle.std.proofs.lemmas.Iterator.{YieldsList-from_slice}
+use Rattle.std.proofs.lemmas.Iterator.Search.{all_from_yields_List}
+use Rattle.headers.specs.Headers.{every_header, lacks, lacks_none, ready_of}
 use Rattle.judging.proofs.is_ready.Goals as goal
 
-pub returns-then-lacks_either : goal.returns-then-lacks_either
-returns-then-lacks_either c = rw (ready_pairs _ _, sym c.lacks_either.ensures ∙ c.if-lacks_either.true)
-
-pub returns-then-lacks_either-2 : goal.returns-then-lacks_either-2
-returns-then-lacks_either-2 c =
-    rw (ready_pairs _ _, sym c.lacks_either.ensures ∙ c.if-lacks_either.false, sym c.lacks_either-2.ensures ∙ c.if-lacks_either-2.true)
-
 pub returns : goal.returns
+unfolding ready_of lacks_none
 returns c =
-    rw (ready_pairs _ _, sym c.lacks_either.ensures ∙ c.if-lacks_either.false, sym c.lacks_either-2.ensures ∙ c.if-lacks_either-2.false, sym c.lacks_either-3.ensures)
+    all_from_yields_List (λ h. not (lacks c.args.lay c.args.s h)) _ _ _ c.all.ensures.ran (YieldsList-from_slice every_header (cc)) (λ x b q k. search (rules, tests))

@@ -1,66 +1,40 @@
--- `judging::judge` meets its contract.
-use Rattle.fields.proofs.TextLaws.{past_in, past_on}
-use Rattle.fields.specs.Texts.{past_of}
-use Rattle.headers.proofs.Seeing.{rows_next_le}
-use Rattle.judging.proofs.Turns.{turns_start, held_in, turn_bad, turn_unlike, turn_go, turns_end}
-use borrow.Author.Tests.{not-true, not-false}
-use lib.ListN.{length}
-use mathlib.Core.Path.{◌≡◌, ◌∙◌}
+use Rattle.std.proofs.Common.{◌≡◌, length, rules, ◌∙◌, sym, ap}
+use mathlib.Core.Logic.{inl, inr}
 use native.Mathlib.Omega.{arith}
+use Rattle.fields.proofs.TextLaws.{lines_few}
+use Rattle.names.specs.Names.{names_in}
+use Rattle.headers.specs.Headers.{fresh_state, held_of}
+use Rattle.headers.proofs.Seeing.{rows_next_le}
+use Rattle.judging.proofs.Turns.{turns_start, turn_bad, turn_go, turns_end}
+use Rattle.judging.proofs.judge.Goals.{then-not-allowed-via-then-not-allowed, then-not-allowed-via-else-not-allowed+then-not-agrees, then-is_names, else-is_names}
 use Rattle.judging.proofs.judge.Goals as goal
 
-pub loop-at-init : goal.loop-at-init
-loop-at-init c = (omega arith, omega arith, omega arith, omega arith, omega arith, turns_start _ c.args.text.now (omega arith), omega arith)
+pub loop-line-init : goal.loop-line-init
+loop-line-init c =
+    let starts = c.into_iter-line-iterator.ensures.into_iter_gives ∙ c.new-line-items.ensures in
+    let fresh : c.default-st.result ≡ fresh_state = search rules in
+    (omega arith, omega (arith, lines_few c.args.text.now, ap length starts), rw starts (turns_start c.args.lay c.args.text.now c.default-st.result fresh (omega arith)), omega arith)
 
 pub returns-then-not-allowed : goal.returns-then-not-allowed
 returns-then-not-allowed c =
-    let loop = c.loop-at in
-    turn_bad c.args.lay c.args.text.now loop.at c.line_end-e.result (omega arith) c.line_end-e.ensures.0 loop.st loop.from loop.to loop.k _ loop.invariant.5 c.scan_line-l.result c.scan_line-l.ensures c.allowed.result c.allowed.ensures (not-true c.allowed.result c.if-not-allowed.true-raw)
+    let l = c.loop-line in
+    turn_bad c.args.lay _ l.st l.held.now l.k _ l.invariant.2 c.in-Some.line.now _ c.in-Some.ensures.steps c.scan_line-l.result c.scan_line-l.ensures
+    (elim c.then-not-allowed.branch [ then-not-allowed-via-then-not-allowed w ↦ inl (sym w.if-not-allowed.ensures) | then-not-allowed-via-else-not-allowed+then-not-agrees w ↦ inr (sym w.if-not-agrees.ensures) ])
 
-pub returns-then-not-agrees : goal.returns-then-not-agrees
-returns-then-not-agrees c =
-    let loop = c.loop-at in
-    turn_unlike c.args.lay c.args.text.now loop.at c.line_end-e.result (omega arith) c.line_end-e.ensures.0 loop.st loop.from loop.to loop.k _ loop.invariant.5 c.scan_line-l.result c.scan_line-l.ensures c.allowed.result c.allowed.ensures c.agrees.result c.agrees.ensures (not-false c.allowed.result c.if-not-allowed.false-raw) (not-true c.agrees.result c.if-not-agrees.true-raw)
-
-pub past-at-requires : goal.past-at-requires
-past-at-requires c =
-    omega (arith, c.loop-at.invariant.6)
-
-pub overflow_add-k : goal.overflow_add-k
-overflow_add-k c =
-    let loop = c.loop-at in
-    omega (arith, loop.invariant.2, loop.invariant.6, c.loop-at-test.true)
-
-pub loop-at-smaller : goal.loop-at-smaller
-loop-at-smaller c =
-    let the-line-end = c.line_end-e in
-    let p = past_on c.loop-at.at the-line-end.result (length c.args.text.now) (omega arith) (omega arith) in
-    let q : c.past-at.result ≡ past_of the-line-end.result (length c.args.text.now) = c.past-at.ensures in
-    omega arith
-
-pub loop-at-preserved : goal.loop-at-preserved
-loop-at-preserved c =
-    let the-scan-line = c.scan_line-l in
-    let the-allowed = c.allowed in
-    let the-agrees = c.agrees in
-    let t = c.args.text.now in
-    let l = c.loop-at in
-    let e = c.line_end-e in
-    let q : c.past-at.result ≡ past_of e.result (length t) = c.past-at.ensures in
-    let r = rows_next_le l.st c.scan_line-l.result l.k in
-    let i = past_in e.result (length t) e.ensures.1 in
-    let p = past_on l.at e.result (length t) (omega arith) (omega arith) in
-    let h = held_in the-scan-line.result l.at e.result l.from l.to (length t) (omega arith) e.ensures.1 l.invariant.3 l.invariant.4 in (
-      rw q i,
-      rw c.next-st.ensures (omega arith),
-      rw q (omega arith),
-      rw (c.held_at-from.ensures, c.held_at-to.ensures) h.0,
-      rw c.held_at-to.ensures h.1,
-      turn_go c.args.lay t l.at e.result (omega arith) e.ensures.0 l.st l.from l.to l.k _ l.invariant.5 the-scan-line.result the-scan-line.ensures the-allowed.result the-allowed.ensures the-agrees.result the-agrees.ensures (not-false the-allowed.result c.if-not-allowed.false-raw) (not-false the-agrees.result c.if-not-agrees.false-raw) c.next-st.result c.held_at-from.result c.held_at-to.result c.past-at.result c.next-st.ensures c.held_at-from.ensures c.held_at-to.ensures c.past-at.ensures,
-      l.invariant.6,
+pub loop-line-preserved : goal.loop-line-preserved
+loop-line-preserved c =
+    let l = c.loop-line in
+    let counts = ap length c.in-Some.ensures.steps in
+    let names : names_in c.if-is_names.held.now ≡ held_of c.scan_line-l.result (names_in c.in-Some.line.now) (names_in l.held.now) =
+    elim c.if-is_names.branch [ then-is_names w ↦ search rules | else-is_names w ↦ search rules ] in (
+      rw c.next-st.ensures (omega (arith, l.invariant.0, rows_next_le l.st c.scan_line-l.result l.k)),
+      omega (arith, l.invariant, counts),
+      rw c.next-st.ensures
+          (turn_go c.args.lay _ l.st l.held.now l.k _ l.invariant.2 c.in-Some.line.now _ c.in-Some.ensures.steps c.scan_line-l.result c.scan_line-l.ensures (sym c.if-not-allowed.ensures) (sym c.if-not-agrees.ensures) c.if-is_names.held.now names),
+      l.invariant.3,
     )
 
 pub returns : goal.returns
 returns c =
-    let loop = c.loop-at in
-    c.finish.ensures ∙ turns_end c.args.lay c.args.text.now loop.at (omega arith) loop.st loop.from loop.to loop.k _ loop.invariant.5
+    let l = c.loop-line in
+    c.finish.ensures ∙ turns_end c.args.lay _ l.st l.held.now l.k _ l.invariant.2 c.in-None.ensures.steps.0
