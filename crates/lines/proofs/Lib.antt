@@ -4,3 +4,4 @@ pub mod BoundLaws
 pub mod Written
 pub mod Examples
 pub mod NamesWritten
+pub mod Taking

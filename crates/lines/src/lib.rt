@@ -8,7 +8,7 @@ ghost use Rattle.lines.specs.Lines.{key_of, row_of, row_line, columns_of, typed_
 mod texts;
 
 use fields::{Columns, Fields, Mark, Stretch};
-pub use texts::Lines;
+pub use texts::{Lines, PlacedLines};
 
 // What a text is: `.type fr` stands in a recording and `.type f` in a sheet.
 #[derive(Clone, Copy, PartialEq, Eq, Debug)]
