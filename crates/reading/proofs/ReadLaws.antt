@@ -14,11 +14,13 @@ use Rattle.headers.specs.Verdicts.{judge_of}
 use Rattle.headers.specs.Places.{Place, Untyped}
 use Rattle.headers.specs.declared.Layout.{Layout}
 use Rattle.headers.specs.Verdicts.{Verdict}
-use Rattle.std.specs.Prelude.{Ok, Err}
+use Rattle.std.specs.Prelude.{Result, Ok, Err, IsErrAnd}
+use Rattle.answers.specs.Refusals.{code_of}
+use Rattle.answers.specs.declared.Refusal.{Refusal}
 use Rattle.headers.proofs.PlaceLaws.{bad_iff_place}
 use Rattle.headers.proofs.TypeLines.{untyped_faulty, same_or_untyped}
 use Rattle.reading.specs.Rows.{words_in, text_words}
-use Rattle.reading.specs.Reading.{refusal, answer_for, list_for, laid_answer, laid_list, ReadsLaid, Reads}
+use Rattle.reading.specs.Reading.{refusal, answer_of, list_of, answer_for, list_for, laid_answer, laid_list, ReadsLaid, Reads}
 use Rattle.reading.specs.declared.ReadAnswer.{ReadAnswer}
 
 -- what `read_laid` answers in each of its three cases, over what its calls answer
@@ -41,6 +43,12 @@ module _ (lay : Layout) (t before after : List ℕ) (r : ReadAnswer) where
   read_done n k d h q l s w a e =
       let f = le-leb k (length before) l in
       record { answer = rw (← h, ← q, f) a; list = rw (← h, ← q, f) (e ∙ rw (w, s)) }
+
+-- what a `?` hands back is what was refused
+pub read_err : (P : List ℕ → ReadAnswer → Type 0) (after : List ℕ) (w : Refusal × ℕ) (r : Result (ℕ × ℕ) (Refusal × ℕ)) → IsErrAnd r (λ e. e ≡ w)
+    → P (replicate (length after) 0) (refusal (code_of w.0) w.1) → P (list_of r after) (answer_of r)
+read_err P after w (Ok p) e h = absurd e
+read_err P after w (Err x) e h = rw e h
 
 -- any two results that satisfy the contract of `read` are equal
 pub read_unique : {t before x y : List ℕ} {r s : ReadAnswer} → Reads t before x r → Reads t before y s → (r ≡ s) × (x ≡ y)

@@ -30,9 +30,9 @@ module _ (m : Masks) (i : ℕ) (h : RowOk m) where
       let k = power_few m.width h.few in
       rw (all_on_within m.on i (omega (arith, h.on_small)), all_off_apart m.off i (omega (arith, h.off_small)))
 
-  pub matches_not_on : (bit_and m.on i ≡ m.on → ⊥) → false ≡ matches_of m i
+  pub matches_by_on : (bit_and m.on i ≡ m.on → ⊥) → eqb (bit_and m.on i) m.on ≡ matches_of m i
   unfolding within
-  matches_not_on n = sym (matches_masks ∙ ap (λ (t : Bool). t && apart m.off i) (ne_eqb (bit_and m.on i) m.on n))
+  matches_by_on n = let e = ne_eqb (bit_and m.on i) m.on n in e ∙ sym (matches_masks ∙ ap (λ (t : Bool). t && apart m.off i) e)
 
   pub matches_by_off : bit_and m.on i ≡ m.on → eqb (bit_and m.off i) 0 ≡ matches_of m i
   unfolding within apart

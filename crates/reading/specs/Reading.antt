@@ -1,22 +1,39 @@
 -- What reading a text answers, and what it leaves in the list.
-use Rattle.std.specs.Prelude.{ℕ, ◌+◌, ◌≡◌, List, cond, leb, length, replicate, Ok, Err}
-use Rattle.table.specs.Surgery.{filled}
+use Rattle.std.specs.Prelude.{ℕ, ◌+◌, ◌≡◌, ◌≤◌, ◌<◌, List, ◌++◌, cond, leb, length, take, replicate, Option, Some, None, Result, Ok, Err}
+use Rattle.table.specs.Surgery.{cleared_from, filled}
+use Rattle.answers.specs.Refusals.{code_of}
+use Rattle.answers.specs.declared.Refusal.{Refusal}
 use Rattle.headers.specs.Layouts.{recording}
 use Rattle.headers.specs.Verdicts.{judge_of}
 use Rattle.headers.specs.declared.Layout.{Layout}
 use Rattle.headers.specs.Verdicts.{Verdict}
 use Rattle.reading.specs.Rows.{words_in}
-use Rattle.reading.specs.declared.Filled.{Filled}
-use Rattle.reading.specs.declared.Filled.TheVariants.{To, Full}
 use Rattle.reading.specs.declared.ReadAnswer.{ReadAnswer}
 
--- k words from a place on, in a list of `room` words
-unfoldable pub filled_of : ℕ → ℕ → ℕ → Filled
-filled_of from k room = cond (leb (from + k) room) (To (from + k)) Full
+-- words stand in a list behind the first `from` of what it held before, and end at k
+pub record Put (ws before : List ℕ) (from : ℕ) (after : List ℕ) (k : ℕ) : Type 0 where
+  pub ends : k ≡ from + length ws
+  pub fits : k ≤ length before
+  pub words : take k after ≡ take from before ++ ws
+
+-- words are put there: where they end, or `None` if they are more than the room
+abbrev pub Puts : List ℕ → List ℕ → ℕ → List ℕ → Option ℕ → Type 0
+Puts ws before from after (Some k) = Put ws before from after k
+Puts ws before from after None = length before < from + length ws
 
 -- a refusal has a code and a place; n and the count are 0
 abbrev pub refusal : ℕ → ℕ → ReadAnswer
 refusal code place = record { code = code; place = place; n = 0; count = 0 }
+
+-- the answer to what was read: the size and how many words, or why it is refused and where
+abbrev pub answer_of : Result (ℕ × ℕ) (Refusal × ℕ) → ReadAnswer
+answer_of (Ok p) = record { code = 0; place = 0; n = p.0; count = p.1 }
+answer_of (Err w) = refusal (code_of w.0) w.1
+
+-- the list after it: 0 in every word beyond the words; all 0 where refused
+abbrev pub list_of : Result (ℕ × ℕ) (Refusal × ℕ) → List ℕ → List ℕ
+list_of (Ok p) list = cleared_from p.1 list
+list_of (Err w) list = replicate (length list) 0
 
 -- 11 with its place; else 8 if the words are more than the room; else done
 abbrev pub answer_for : Verdict → List ℕ → ℕ → ReadAnswer

@@ -1,22 +1,18 @@
 // Reading a text: the words of its rows, in a lent list.
 #![tactic(auto)]
 
-ghost use Rattle.std.specs.Prelude.{◌≡◌, ◌++◌, ◌+◌, ◌≤◌, length, take};
+ghost use Rattle.std.specs.Prelude.{◌≡◌, [], ◌∷◌, ◌≤◌, length, IfOk};
+ghost use Rattle.answers.specs.Refusals.{code_of};
 ghost use Rattle.lines.specs.Bounds.{RowOk, LineOk};
-ghost use Rattle.lines.specs.declared.Kind.TheVariants.{Recording, Sheet};
+ghost use Rattle.lines.specs.declared.Kind.TheVariants.{Recording};
 ghost use Rattle.reading.specs.Rows.{matches_of, rule_of, row_words, line_words, words_in};
-ghost use Rattle.reading.specs.Reading.{filled_of, refusal, ReadsLaid, Reads};
+ghost use Rattle.reading.specs.Reading.{Puts, refusal, answer_of, list_of, ReadsLaid, Reads};
 
+use answers::Refusal;
 use headers::Layout;
-use lines::{Kind, Line, Masks, View};
+use lines::{Kind, Line, Lines, Masks, View};
 
-// Where the words written so far end, or that the list is full.
-#[derive(Clone, Copy)]
-pub enum Filled {
-    To(usize),
-    Full,
-}
-
+// The code is a number, 0 where nothing was refused: so `Contract (read ..)` (public/specs/PublicCalls), the theorems of promises and C have it.
 #[derive(Clone, Copy)]
 pub struct ReadAnswer {
     pub code: u32,
@@ -30,40 +26,35 @@ fn matches(m: Masks, state: u32) -> bool
     requires { RowOk m }
     ensures { result ≡ matches_of m state }
 {
-    let on = m.on;
-    let off = m.off;
-    if on & state != on {
-        return false;
-    }
-    off & state == 0
+    m.on & state == m.on && m.off & state == 0
 }
 
-// The words of a row's transitions, in increasing number of state, from `from` on.
-fn expand(list: &mut [u32], from: usize, m: Masks) -> Filled
-    requires { (from ≤ length list.old) × RowOk m }
-    ensures room { result ≡ filled_of from (length (row_words Recording m)) (length list.old) }
-    ensures words { from + length (row_words Recording m) ≤ length list.old → take (from + length (row_words Recording m)) list.new ≡ take from list.old ++ row_words Recording m }
+// One word behind the first `from`: where the words end then, or `None` if the list is full.
+fn put(list: &mut [u32], from: usize, word: u32) -> Option<usize>
+    requires { from ≤ length list.old }
+    ensures { Puts (word ∷ []) list.old from list.new result }
 {
-    let width = m.width;
-    let next = m.next;
-    let off = m.off;
+    if list.len() <= from {
+        return None;
+    }
+    list[from] = word;
+    Some(from + 1)
+}
+
+// The words of a row's transitions, in increasing number of state.
+fn expand(list: &mut [u32], from: usize, m: Masks) -> Option<usize>
+    requires { (from ≤ length list.old) × RowOk m }
+    ensures { Puts (row_words Recording m) list.old from list.new result }
+{
     // A matching state has every bit of the on-mask and none of the off-mask, so it lies from the one to below the end.
-    let end = panel::power(width) - off;
+    let end = panel::power(m.width) - m.off;
     let mut at = from;
-    let mut i: u32 = m.on;
-    while i < end {
-        if matches(m, i) {
-            if list.len() <= at {
-                return Filled::Full;
-            }
-            list[at] = panel::transition_word(i, next);
-            at += 1;
-            i += 1;
-        } else {
-            i += 1;
+    for state in m.on..end {
+        if matches(m, state) {
+            at = put(list, at, panel::transition_word(state, m.next))?;
         }
     }
-    Filled::To(at)
+    Some(at)
 }
 
 // The word of a row's rule.
@@ -74,72 +65,71 @@ fn rule_of(m: Masks) -> u32
     panel::rule_word(judging::only_on(m.next), m.on, m.off)
 }
 
-// The word of a row's rule, at `from`.
-fn put_rule(list: &mut [u32], from: usize, m: Masks) -> Filled
-    requires { (from ≤ length list.old) × RowOk m }
-    ensures room { result ≡ filled_of from (length (row_words Sheet m)) (length list.old) }
-    ensures words { from + length (row_words Sheet m) ≤ length list.old → take (from + length (row_words Sheet m)) list.new ≡ take from list.old ++ row_words Sheet m }
-{
-    if list.len() <= from {
-        return Filled::Full;
-    }
-    list[from] = rule_of(m);
-    Filled::To(from + 1)
-}
-
-fn fill_row(kind: Kind, list: &mut [u32], from: usize, m: Masks) -> Filled
-    requires { (from ≤ length list.old) × RowOk m }
-    ensures room { result ≡ filled_of from (length (row_words kind m)) (length list.old) }
-    ensures words { from + length (row_words kind m) ≤ length list.old → take (from + length (row_words kind m)) list.new ≡ take from list.old ++ row_words kind m }
-{
-    match kind {
-        Kind::Recording => expand(list, from, m),
-        Kind::Sheet => put_rule(list, from, m),
-    }
-}
-
-fn fill_line(kind: Kind, list: &mut [u32], from: usize, l: Line) -> Filled
+// The words of a line: those of a row, by the kind of its text, or none.
+fn fill_line(kind: Kind, list: &mut [u32], from: usize, l: Line) -> Option<usize>
     requires { (from ≤ length list.old) × LineOk l }
-    ensures room { result ≡ filled_of from (length (line_words kind l)) (length list.old) }
-    ensures words { from + length (line_words kind l) ≤ length list.old → take (from + length (line_words kind l)) list.new ≡ take from list.old ++ line_words kind l }
+    ensures { Puts (line_words kind l) list.old from list.new result }
 {
-    let v = lines::view_of(l);
-    match v {
-        View::Cells(m) => fill_row(kind, list, from, m),
-        View::EndMark => Filled::To(from),
-        View::Aside => Filled::To(from),
+    match (lines::view_of(l), kind) {
+        (View::Cells(m), Kind::Recording) => expand(list, from, m),
+        (View::Cells(m), Kind::Sheet) => put(list, from, rule_of(m)),
+        (View::EndMark | View::Aside, _) => Some(from),
     }
 }
 
 // The words of all the rows of a text, from the start of the list on.
-fn fill(kind: Kind, text: &[u8], list: &mut [u32]) -> Filled
-    ensures room { result ≡ filled_of 0 (length (words_in kind text.now)) (length list.old) }
-    ensures words { length (words_in kind text.now) ≤ length list.old → take (length (words_in kind text.now)) list.new ≡ words_in kind text.now }
+fn fill(kind: Kind, text: &[u8], list: &mut [u32]) -> Option<usize>
+    ensures { Puts (words_in kind text.now) list.old 0 list.new result }
 {
     let mut count = 0;
-    let mut at = 0;
-    while at < text.len() {
-        let e = fields::line_end(text, at);
-        let l = lines::scan_line(&text[at..e]);
-        let f = fill_line(kind, list, count, l);
-        match f {
-            Filled::To(k) => {
-                count = k;
-                at = fields::past(e, text.len());
-            }
-            Filled::Full => {
-                return Filled::Full;
-            }
-        }
+    for line in Lines::new(text) {
+        count = fill_line(kind, list, count, lines::scan_line(line))?;
     }
-    Filled::To(count)
+    Some(count)
 }
 
-pub fn refused(code: u32, place: usize) -> ReadAnswer
-    ensures { result ≡ refusal code place }
+// Reads a text of a layout as far as its words: the panel's size and how many they are, or why it is refused and where. `finish` makes the answer of it.
+pub fn read_words(
+    lay: Layout,
+    text: &[u8],
+    list: &mut [u32],
+) -> Result<(u32, usize), (Refusal, usize)>
+    ensures read { ReadsLaid lay text.now list.old (list_of result list.new) (answer_of result) }
+    ensures fits { IfOk result (λ p. p.1 ≤ length list.new) }
+{
+    let n = judging::judge(lay, text).map_err(|place| (Refusal::Faulty, place))?;
+    let count = fill(lay.kind, text, list).ok_or((Refusal::BookRoom, 0))?;
+    Ok((n, count))
+}
+
+// The answer to what was read, with zeros behind the words; all zeros if it is refused.
+pub fn finish(read: Result<(u32, usize), (Refusal, usize)>, list: &mut [u32]) -> ReadAnswer
+    requires { IfOk read (λ p. p.1 ≤ length list.old) }
+    ensures answer { result ≡ answer_of read }
+    ensures list { list.new ≡ list_of read list.old }
+{
+    match read {
+        Ok((n, count)) => {
+            table::clear_from(list, count);
+            ReadAnswer {
+                code: 0,
+                place: 0,
+                n,
+                count,
+            }
+        }
+        Err((why, place)) => {
+            table::clear(list);
+            refused(why, place)
+        }
+    }
+}
+
+pub fn refused(why: Refusal, place: usize) -> ReadAnswer
+    ensures { result ≡ refusal (code_of why) place }
 {
     ReadAnswer {
-        code,
+        code: why.code(),
         place,
         n: 0,
         count: 0,
@@ -150,32 +140,8 @@ pub fn refused(code: u32, place: usize) -> ReadAnswer
 pub fn read_laid(lay: Layout, text: &[u8], list: &mut [u32]) -> ReadAnswer
     ensures { ReadsLaid lay text.now list.old list.new result }
 {
-    let kind = lay.kind;
-    let v = judging::judge(lay, text);
-    match v {
-        Err(p) => {
-            table::clear(list);
-            refused(11, p)
-        }
-        Ok(n) => {
-            let f = fill(kind, text, list);
-            match f {
-                Filled::To(count) => {
-                    table::clear_from(list, count);
-                    ReadAnswer {
-                        code: 0,
-                        place: 0,
-                        n,
-                        count,
-                    }
-                }
-                Filled::Full => {
-                    table::clear(list);
-                    refused(8, 0)
-                }
-            }
-        }
-    }
+    let read = read_words(lay, text, list);
+    finish(read, list)
 }
 
 // Reads a recording.

@@ -1,2 +1,1 @@
-pub mod JudgeLaws
 pub mod SheetReadLaws

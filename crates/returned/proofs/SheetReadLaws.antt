@@ -6,10 +6,10 @@ use mathlib.Core.Logic.{◌↔◌}
 use mathlib.Core.Bool.{Bool, true, false, cond}
 use native.Mathlib.Omega.{arith}
 use lib.Dec.{leb}
-use lib.ListN.{length, replicate, take, drop, length-append, length-replicate}
-use lib.Seq.{take_at, drop_at}
+use lib.ListN.{length, replicate, take, drop, length-append, length-drop, length-replicate}
+use lib.Seq.{take_at, length-take-le}
 use borrow.Author.Tests.{le-leb, leb-true}
-use Rattle.table.specs.Surgery.{filled}
+use Rattle.table.specs.Surgery.{cleared_from, filled}
 use Rattle.prime.specs.Sheets.{good_sheet}
 use Rattle.fields.specs.Texts.{lines_of}
 use Rattle.headers.specs.Layouts.{sheet}
@@ -23,9 +23,8 @@ use Rattle.reading.specs.Rows.{sheet_words}
 use Rattle.reading.specs.Reading.{refusal, answer_for, list_for, laid_answer, laid_list, ReadsLaid}
 use Rattle.reading.specs.declared.ReadAnswer.{ReadAnswer}
 use Rattle.reading.proofs.ReadLaws.{eleven_iff_place}
-use Rattle.sorting.specs.Orders.{sorted}
-use Rattle.sorting.proofs.OrderLaws.{same_length, sorted_ordered}
-use Rattle.returned.specs.Judging.{ordered_first, Judged}
+use Rattle.sorting.specs.Orders.{Ordered, sorted}
+use Rattle.sorting.proofs.OrderLaws.{same_length, sorted_ordered, ordered_sorted}
 use Rattle.returned.specs.Returned.{sheet_answer_for, sheet_answer, sheet_list, ReadsSheet}
 
 -- any two results that satisfy the contract of `read_sheet` are equal
@@ -94,47 +93,78 @@ module _ (t before mid : List ℕ) (r : ReadAnswer) (h : ReadsLaid sheet t befor
 
 -- ---- the words in order
 
-module _ (t before mid : List ℕ) (r : ReadAnswer) (q : Fit t (length before) mid r) where
-  count_is : r.count ≡ length (sheet_words t)
+-- the words of the rows stand in front of a list, and are then put in order there: what is handed back if they are a good sheet, and if not
+module _ (t before mid : List ℕ) (n count : ℕ) (room : count ≤ length mid) (q : Fit t (length before) (cleared_from count mid) (record { code = 0; place = 0; n = n; count = count })) where
+  size_is : n ≡ q.n
+  size_is = ap (λ (x : ReadAnswer). x.n) q.answer
+
+  count_is : count ≡ length (sheet_words t)
   count_is = ap (λ (x : ReadAnswer). x.count) q.answer
 
-  pub size_few : r.n ≤ 10
-  size_few = rw q.answer (text_size sheet q.n (lines_of t) ((good_iff_text sheet t q.n).0 q.accepted)).1
+  pub size_few : n ≤ 10
+  size_few = rw size_is (text_size sheet q.n (lines_of t) ((good_iff_text sheet t q.n).0 q.accepted)).1
 
-  first_words : take r.count mid ≡ sheet_words t
-  unfolding filled
-  first_words = rw q.words (take_at (sheet_words t) (replicate (length before - length (sheet_words t)) 0) r.count (sym count_is))
+  first_words : take count mid ≡ sheet_words t
+  unfolding filled cleared_from
+  first_words =
+      sym (take_at (take count mid) (replicate (length mid - count) 0) count (length-take-le count mid room))
+      ∙ ap (take count) q.words
+      ∙ take_at (sheet_words t) (replicate (length before - length (sheet_words t)) 0) count (sym count_is)
 
-  pub count_fits : r.count ≤ length mid
-  unfolding filled
-  count_fits = rw (count_is, q.words) (omega (arith, length-append (sheet_words t) (replicate (length before - length (sheet_words t)) 0)))
+  room_is : length mid ≡ length before
+  unfolding filled cleared_from
+  room_is =
+      omega (
+        arith,
+        room,
+        q.fits,
+        ap length q.words,
+        length-take-le count mid room,
+        length-append (take count mid) (replicate (length mid - count) 0),
+        length-replicate {A = ℕ} (length mid - count) 0,
+        length-append (sheet_words t) (replicate (length before - length (sheet_words t)) 0),
+        length-replicate {A = ℕ} (length before - length (sheet_words t)) 0,
+      )
 
-  -- put in order and judged, they are what is read of the sheet
-  module _ (after : List ℕ) (s : ReadAnswer) (j : Judged r mid after s) where
-    size_is : r.n ≡ q.n
-    size_is = ap (λ (x : ReadAnswer). x.n) q.answer
+  sorted_length : length (sorted (sheet_words t)) ≡ length (sheet_words t)
+  sorted_length = sym (same_length (sorted_ordered (sheet_words t)).same)
 
-    sorted_length : length (sorted (sheet_words t)) ≡ length (sheet_words t)
-    sorted_length = sym (same_length (sorted_ordered (sheet_words t)).same)
+  accepted : judge_of sheet t ≡ Ok n
+  accepted = q.accepted ∙ ap Ok (sym size_is)
 
-    in_order : ordered_first r.count mid ≡ filled (length before) (sorted (sheet_words t))
-    unfolding filled
-    in_order =
-        rw (first_words, sorted_length)
-        (ap (λ (z : List ℕ). sorted (sheet_words t) ++ z)
-        (ap (drop r.count) q.words ∙ drop_at (sheet_words t) (replicate (length before - length (sheet_words t)) 0) r.count (sym count_is)))
+  fits : leb (length (sheet_words t)) (length before) ≡ true
+  fits = le-leb (length (sheet_words t)) (length before) q.fits
 
-    room_is : length mid ≡ length before
-    unfolding filled
-    room_is = rw q.words (omega (arith, q.fits, length-append (sheet_words t) (replicate (length before - length (sheet_words t)) 0), length-replicate {A = ℕ} (length before - length (sheet_words t)) 0))
+  module _ (rules : List ℕ) (o : Ordered (take count mid) rules) (b : Bool) (g : b ≡ good_sheet n rules) where
+    rules_length : length rules ≡ count
+    rules_length = sym (same_length o.same) ∙ length-take-le count mid room
 
-    pub read_judged : ReadsSheet t before after s
-    unfolding sheet_answer sheet_list
-    read_judged =
-        let fits = le-leb (length (sheet_words t)) (length before) q.fits in
+    front : take count (rules ++ drop count mid) ≡ rules
+    front = take_at rules (drop count mid) count rules_length
+
+    same : length (rules ++ drop count mid) ≡ length before
+    same = omega (arith, room, room_is, rules_length, length-append rules (drop count mid), length-drop count mid)
+
+    in_order : rules ≡ sorted (sheet_words t)
+    in_order = ordered_sorted (take count mid) rules o ∙ ap sorted first_words
+
+    good : good_sheet n (sorted (sheet_words t)) ≡ b
+    good = ap (good_sheet n) (sym in_order) ∙ sym g
+
+    pub read_good : b ≡ true → ReadsSheet t before (cleared_from count (rules ++ drop count mid)) (record { code = 0; place = 0; n = n; count = count })
+    unfolding sheet_answer sheet_list filled cleared_from
+    read_good h =
         record {
-          answer = j.answer ∙ rw (first_words, q.accepted, fits, ← size_is) (ap (λ (x : ReadAnswer). cond (good_sheet r.n (sorted (sheet_words t))) x (refusal 5 0)) (q.answer ∙ rw size_is refl));
-          words = j.words ∙ rw (in_order, room_is, first_words, q.accepted, fits, size_is) refl;
+          answer = rw (accepted, fits, good, h) (ap (λ (k : ℕ). record { code = 0; place = 0; n = n; count = k }) count_is);
+          words = rw (accepted, fits, good, h) (rw (front, same, sorted_length, ← count_is) (rw in_order refl));
+        }
+
+    pub read_no_good : b ≡ false → ReadsSheet t before (replicate (length (rules ++ drop count mid)) 0) (refusal 5 0)
+    unfolding sheet_answer sheet_list
+    read_no_good h =
+        record {
+          answer = rw (accepted, fits, good, h) refl;
+          words = rw (accepted, fits, good, h) (rw same refl);
         }
 
 -- ---- the place of a fault

@@ -1,14 +1,10 @@
--- What the loop of this function keeps.
-use Prim.Native.Nat.{◌-◌, ◌≤◌}
-use Rattle.fields.specs.Texts.{lines_of}
+-- The words so far and those of the lines left are the words of the text.
+use Prim.Native.Nat.{◌≤◌}
 use Rattle.reading.specs.Rows.{lines_words, words_in}
-use lib.ListN.{length, take, drop}
+use lib.ListN.{length, take}
 use mathlib.Core.List.{◌++◌}
 use mathlib.Core.Path.{◌≡◌}
 use Rattle.reading.proofs.fill.Given as goal
 
-abbrev pub invariant-loop-at : goal.invariant-loop-at
-invariant-loop-at l = (l.at ≤ length l.text) × (l.count ≤ length l.list) × (length l.list ≡ length l.initial.list) × (take l.count l.list ++ lines_words l.kind (lines_of (drop l.at l.text)) ≡ words_in l.kind l.text)
-
-abbrev pub decreases-loop-at : goal.decreases-loop-at
-decreases-loop-at l = length l.text - l.at
+abbrev pub invariant-loop-line : goal.invariant-loop-line
+invariant-loop-line l = record { fits : l.count ≤ length l.list; words : take l.count l.list ++ lines_words l.kind l.line-iterator ≡ words_in l.kind l.text }

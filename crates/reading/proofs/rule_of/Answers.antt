@@ -1,4 +1,4 @@
--- `reading::rule_of` meets its contract.
+-- `reading::rule_of` meets its contract: a row's masks are below 2^10.
 use Prim.Native.Nat.{ℕ}
 use mathlib.Core.Path.{◌∙◌, ap}
 use native.Mathlib.Omega.{arith}
