@@ -1,132 +1,102 @@
 -- Laws of names as they are written: a line's fields one by one, and both name lines.
-use Prim.Native.Nat.{ℕ, suc, ◌+◌, ◌-◌, ◌*◌, ◌≤◌, ◌<◌}
+use Prim.Native.Nat.{ℕ, zero, suc, ◌+◌, ◌*◌, ◌≤◌, ◌<◌}
 use mathlib.Core.Path.{◌≡◌, refl, sym, ◌∙◌, ap}
 use mathlib.Core.List.{List, [], ◌∷◌, ◌++◌, append-nil, append_assoc}
+use mathlib.Core.Bool.{Bool, true, false, cond}
+use native.Mathlib.Numerals.{add-one}
 use native.Mathlib.Omega.{arith}
-use lib.ListN.{length, take, drop, length-append, length-take, length-drop}
-use lib.Seq.{take-nil}
-use Rattle.fields.specs.Fields.{fields_in, Spans}
-use Rattle.fields.specs.declared.Span.{Span}
-use Rattle.fields.proofs.FieldLaws.{ne_lt, span_none, span_some, span_on}
+use lib.ListN.{length, take, length-append}
+use Rattle.std.specs.Iterator.Adapters.{take_source, take_count}
+use Rattle.fields.specs.Bytes.{mark_of, space_mark}
+use Rattle.fields.specs.Fields.{close, fields_from, fields_in, fields_left}
+use Rattle.std.specs.declared.iter.Take.{Take}
+use Rattle.fields.specs.declared.Fields.{Fields}
 use Rattle.names.specs.Names.{spaced}
 use Rattle.writing.specs.TableText.{ilb, ob, name_text, name_lines}
-use Rattle.writing.specs.Writing.{Put, names_length}
-use Rattle.writing.proofs.PutLaws.{put_none, put_length, put_then, put_line, line_length}
+use Rattle.writing.specs.Writing.{Wrote, names_length}
+use Rattle.writing.specs.declared.Page.{Page}
+use Rattle.writing.proofs.PutLaws.{wrote_none, wrote_then, wrote_line, line_length}
 
--- ---- the fields that are left
+-- ---- the first fields of a line, as an iterator takes them
 
--- the first k of the fields from a place on, each after one space
-pub spaced_left : ℕ → ℕ → List ℕ → List ℕ
-spaced_left k i s = spaced (take k (fields_in (drop i s)))
+-- what it has left
+abbrev pub names_left : Take Fields → List (List ℕ)
+names_left it = take (take_count it) (fields_left (take_source it))
 
-left_all : (n : ℕ) (s : List ℕ) → spaced_left n 0 s ≡ spaced (take n (fields_in s))
-unfolding spaced_left
-left_all n s = refl
+pub left_first : {it taken : Take Fields} {fields : Fields} {n : ℕ} (names : List ℕ) → it ≡ taken → take_source taken ≡ fields → fields_left fields ≡ fields_in names → take_count taken ≡ n → names_left it ≡ take n (fields_in names)
+left_first names g e h k = rw (g, e, h, k)
 
-left_zero : (i : ℕ) (s : List ℕ) → spaced_left 0 i s ≡ []
-unfolding spaced spaced_left
-left_zero i s = refl
+pub left_next : (s t : Take Fields) (w : List ℕ) → fields_left (take_source s) ≡ w ∷ fields_left (take_source t) → take_count t + 1 ≡ take_count s → names_left s ≡ w ∷ names_left t
+left_next s t w e k = rw (e, ← k, add-one)
 
-module _ (s : List ℕ) (i : ℕ) (r : Span) (h : Spans s i r) where
-  left_none : (k : ℕ) → r.from ≡ length s → spaced_left k i s ≡ []
-  unfolding spaced spaced_left
-  left_none k e = rw (span_none s i r h e, take-nil)
+pub left_none : (s : Take Fields) → (0 < take_count s → fields_left (take_source s) ≡ []) → names_left s ≡ []
+left_none s h = go (take_count s) h
+  where
+    go : (k : ℕ) → (0 < k → fields_left (take_source s) ≡ []) → take k (fields_left (take_source s)) ≡ []
+    go zero e = refl
+    go (suc k) e = rw (e (omega arith))
 
-  left_suc : (k : ℕ) → r.from < length s → spaced_left (suc k) i s ≡ 32 ∷ (take (r.to - r.from) (drop r.from s) ++ spaced_left k r.to s)
-  unfolding spaced spaced_left
-  left_suc k l = rw (span_some s i r h l)
+-- each field has a byte, so that the spaces are no more than the bytes
+close_most : (w : List ℕ) (ws : List (List ℕ)) → length (spaced (close w ws)) ≤ 2 * length w + length (spaced ws)
+unfolding spaced
+close_most [] ws = omega arith
+close_most (b ∷ w) ws = omega (arith, length-append w (spaced ws))
 
-  left_on : (k : ℕ) → 0 < k → r.from < length s → spaced_left k i s ≡ 32 ∷ (take (r.to - r.from) (drop r.from s) ++ spaced_left (k - 1) r.to s)
-  left_on k p l = let e : k ≡ suc (k - 1) = omega arith in ap (λ (x : ℕ). spaced_left x i s) e ∙ left_suc (k - 1) l
+from_most : (w s : List ℕ) → length (spaced (fields_from w s)) ≤ 2 * (length w + length s)
+unfolding spaced fields_from
+from_most w [] = omega (arith, close_most w [])
+from_most w (b ∷ s) = go (space_mark (mark_of b)) (omega (arith, from_most [] s)) (from_most (w ++ b ∷ []) s)
+  where
+    go : (t : Bool) → length (spaced (fields_from [] s)) ≤ 2 * length s → length (spaced (fields_from (w ++ b ∷ []) s)) ≤ 2 * (length (w ++ b ∷ []) + length s)
+        → length (spaced (cond t (close w (fields_from [] s)) (fields_from (w ++ b ∷ []) s))) ≤ 2 * (length w + suc (length s))
+    go true h k = omega (arith, close_most w (fields_from [] s))
+    go false h k = omega (arith, length-append w (b ∷ []))
 
-  field_length : length (take (r.to - r.from) (drop r.from s)) ≡ r.to - r.from
-  field_length = simp (length-take, length-drop) (omega (arith, h.end_in))
+spaced_part : (n : ℕ) (ws : List (List ℕ)) → length (spaced (take n ws)) ≤ length (spaced ws)
+unfolding spaced
+spaced_part zero ws = omega arith
+spaced_part (suc n) [] = omega arith
+spaced_part (suc n) (w ∷ ws) = omega (arith, length-append w (spaced (take n ws)), length-append w (spaced ws), spaced_part n ws)
 
--- ---- how long they are
+pub spaced_most : (n : ℕ) (s : List ℕ) → length (spaced (take n (fields_in s))) ≤ 2 * length s
+unfolding fields_in
+spaced_most n s = omega (arith, spaced_part n (fields_from [] s), from_most [] s)
 
--- of the first n fields of s those before a place make so many bytes, and k are left
-pub record Counting (s : List ℕ) (n sum i k : ℕ) : Type 0 where
-  pub inside : i ≤ length s
-  pub twice : sum ≤ 2 * i
-  pub left : sum + length (spaced_left k i s) ≡ length (spaced_left n 0 s)
+pub spaced_next : (ws us : List (List ℕ)) (w : List ℕ) → ws ≡ w ∷ us → spaced ws ≡ 32 ∷ (w ++ spaced us)
+unfolding spaced
+spaced_next ws us w e = rw e
 
-pub counting_start : (s : List ℕ) (n : ℕ) → Counting s n 0 0 n
-counting_start s n = record { inside = omega arith; twice = omega arith; left = omega arith }
+pub spaced_count : (ws us : List (List ℕ)) (w : List ℕ) → ws ≡ w ∷ us → length (spaced ws) ≡ 1 + length w + length (spaced us)
+spaced_count ws us w e = ap length (spaced_next ws us w e) ∙ omega (arith, length-append w (spaced us))
 
-module _ (s : List ℕ) (n sum i k : ℕ) (c : Counting s n sum i k) where
-  counting_over : length (spaced_left k i s) ≡ 0 → (sum ≡ length (spaced (take n (fields_in s)))) × (sum ≤ 2 * length s)
-  counting_over z = (omega (arith, c.left, ap length (left_all n s)), omega (arith, c.inside, c.twice))
+pub spaced_end : (ws : List (List ℕ)) → ws ≡ [] → length (spaced ws) ≡ 0
+unfolding spaced
+spaced_end ws e = rw e
 
-  pub counting_end : k ≡ 0 → (sum ≡ length (spaced (take n (fields_in s)))) × (sum ≤ 2 * length s)
-  counting_end z = counting_over (ap (λ (x : ℕ). length (spaced_left x i s)) z ∙ ap length (left_zero i s))
-
-  module _ (r : Span) (h : Spans s i r) where
-    pub counting_none : r.from ≡ length s → (sum ≡ length (spaced (take n (fields_in s)))) × (sum ≤ 2 * length s)
-    counting_none e = counting_over (ap length (left_none s i r h k e))
-
-    pub counting_more : 0 < k → (r.from ≡ length s → ⊥) → Counting s n (sum + (1 + (r.to - r.from))) r.to (k - 1)
-    counting_more p d =
-        let l = ne_lt r.from (length s) h.start_in d in
-        let o = span_on s i r h l in
-        let w = take (r.to - r.from) (drop r.from s) in
-        record {
-          inside = h.end_in;
-          twice = omega (arith, c.twice, h.starts);
-          left = omega (arith, c.left, field_length s i r h, length-append w (spaced_left (k - 1) r.to s), ap length (left_on s i r h k p l));
-        }
-
--- ---- writing them
-
--- of the first n fields of s those before a place were written at a place of d, which gave d' up to e, and k are left
-pub record Spacing (d : List ℕ) (at : ℕ) (s : List ℕ) (n : ℕ) (d' : List ℕ) (e i k : ℕ) : Type 0 where
-  pub inside : i ≤ length s
-  pub same : length d' ≡ length d
+-- of some names those that an iterator has left are still to be written on the page q, which was p
+pub record Spacing (p : Page) (names : List (List ℕ)) (q : Page) (left : List (List ℕ)) : Type 0 where
   pub done : List ℕ
-  pub left : done ++ spaced_left k i s ≡ spaced_left n 0 s
-  pub put : Put d at done d' e
+  pub all : done ++ spaced left ≡ spaced names
+  pub wrote : Wrote p done q
 
-pub spacing_start : (d : List ℕ) (at : ℕ) (s : List ℕ) (n : ℕ) → Spacing d at s n d at 0 n
-spacing_start d at s n = record { inside = omega arith; same = refl; done = []; left = refl; put = put_none d at }
+pub spacing_start : (p : Page) (names : List (List ℕ)) → p.at ≤ length p.out.now → Spacing p names p names
+spacing_start p names h = record { done = []; all = refl; wrote = wrote_none p h }
 
-module _ (d : List ℕ) (at : ℕ) (s : List ℕ) (n : ℕ) (room : at + length (spaced (take n (fields_in s))) ≤ length d) (d' : List ℕ) (e i k : ℕ) (c : Spacing d at s n d' e i k) where
-  spacing_room : at + (length c.done + length (spaced_left k i s)) ≤ length d
-  spacing_room = omega (arith, room, ap length (left_all n s), length-append c.done (spaced_left k i s), ap length c.left)
+pub spacing_end : (p : Page) (names : List (List ℕ)) (q : Page) (left : List (List ℕ)) → left ≡ [] → Spacing p names q left → Wrote p (spaced names) q
+unfolding spaced
+spacing_end p names q left z c = let e : c.done ≡ spaced names = sym (append-nil c.done) ∙ ap (λ (x : List (List ℕ)). c.done ++ spaced x) (sym z) ∙ c.all in rw e at c.wrote
 
-  spacing_over : spaced_left k i s ≡ [] → Put d at (spaced (take n (fields_in s))) d' e
-  spacing_over z = let q : c.done ≡ spaced (take n (fields_in s)) = sym (append-nil c.done) ∙ ap (λ (x : List ℕ). c.done ++ x) (sym z) ∙ c.left ∙ left_all n s in rw q at c.put
+module _ (p : Page) (names : List (List ℕ)) (q : Page) (left others : List (List ℕ)) (w : List ℕ) (e : left ≡ w ∷ others) (c : Spacing p names q left) where
+  pub spacing_room : p.at + length (spaced names) ≤ length p.out.now → q.at + (1 + length w) ≤ length q.out.now
+  spacing_room h =
+      omega (arith, h, c.wrote, ap length c.all, length-append c.done (spaced left), spaced_count left others w e)
 
-  pub spacing_end : k ≡ 0 → Put d at (spaced (take n (fields_in s))) d' e
-  spacing_end z = spacing_over (ap (λ (x : ℕ). spaced_left x i s) z ∙ left_zero i s)
-
-  module _ (r : Span) (h : Spans s i r) where
-    pub spacing_none : r.from ≡ length s → Put d at (spaced (take n (fields_in s))) d' e
-    spacing_none z = spacing_over (left_none s i r h k z)
-
-    module _ (p : 0 < k) (f : r.from ≡ length s → ⊥) where
-      within : r.from < length s
-      within = ne_lt r.from (length s) h.start_in f
-
-      pub spacing_can : e + (1 + length (take (r.to - r.from) (drop r.from s))) ≤ length d'
-      spacing_can =
-          omega (
-            arith,
-            spacing_room,
-            c.same,
-            c.put.behind,
-            length-append (take (r.to - r.from) (drop r.from s)) (spaced_left (k - 1) r.to s),
-            ap length (left_on s i r h k p within),
-          )
-
-      pub spacing_more : (d'' : List ℕ) (g : ℕ) → Put d' e (32 ∷ take (r.to - r.from) (drop r.from s)) d'' g → Spacing d at s n d'' g r.to (k - 1)
-      spacing_more d'' g q =
-          let w = take (r.to - r.from) (drop r.from s) in
-          record {
-            inside = h.end_in;
-            same = put_length d' e (32 ∷ w) d'' g (omega (arith, spacing_can)) q ∙ c.same;
-            done = c.done ++ 32 ∷ w;
-            left = append_assoc c.done (32 ∷ w) (spaced_left (k - 1) r.to s) ∙ ap (λ (x : List ℕ). c.done ++ x) (sym (left_on s i r h k p within)) ∙ c.left;
-            put = put_then d at c.done d' e (32 ∷ w) d'' g (omega (arith, spacing_room)) c.put q;
-          }
+  pub spacing_more : {r t : Page} → Wrote q (32 ∷ []) r → Wrote r w t → Spacing p names t others
+  spacing_more a b = record {
+    done = c.done ++ 32 ∷ w;
+    all = append_assoc c.done (32 ∷ w) (spaced others) ∙ ap (λ (x : List ℕ). c.done ++ x) (sym (spaced_next left others w e)) ∙ c.all;
+    wrote = wrote_then c.wrote (wrote_then a b);
+  }
 
 -- ---- both name lines
 
@@ -134,10 +104,9 @@ pub name_length : (key : List ℕ) (names : List (List ℕ)) → length (name_te
 unfolding name_text
 name_length key names = line_length key (spaced names)
 
-pub put_name_text : (d : List ℕ) (at : ℕ) (key : List ℕ) (names : List (List ℕ)) (d₁ : List ℕ) (a : ℕ) (d₂ : List ℕ) (b : ℕ) (d₃ : List ℕ) (c : ℕ) → at + length (name_text key names) ≤ length d
-    → Put d at key d₁ a → Put d₁ a (spaced names) d₂ b → Put d₂ b (10 ∷ []) d₃ c → Put d at (name_text key names) d₃ c
+pub wrote_names : {p q r t : Page} {key : List ℕ} (names : List (List ℕ)) → Wrote p key q → Wrote q (spaced names) r → Wrote r (10 ∷ []) t → Wrote p (name_text key names) t
 unfolding name_text
-put_name_text d at key names = put_line d at key (spaced names)
+wrote_names names a b c = wrote_line a b c
 
 -- there are names exactly where they make bytes
 lines_none : (names : List (List ℕ)) → length (spaced names) ≡ 0 → name_lines names ≡ []
@@ -174,8 +143,8 @@ lines_length (w ∷ ws) =
 
 -- over the number of their bytes
 module _ (names : List (List ℕ)) (k : ℕ) (hk : k ≡ length (spaced names)) where
-  pub put_lines_none : (d : List ℕ) (at : ℕ) → k ≡ 0 → Put d at (name_lines names) d at
-  put_lines_none d at z = rw (lines_none names (sym hk ∙ z)) (put_none d at)
+  pub wrote_no_lines : (p : Page) → k ≡ 0 → p.at ≤ length p.out.now → Wrote p (name_lines names) p
+  wrote_no_lines p z h = rw (lines_none names (sym hk ∙ z)) (wrote_none p h)
 
   module _ (f : k ≡ 0 → ⊥) where
     lines_are : name_lines names ≡ name_text ilb names ++ name_text ob names
@@ -184,7 +153,5 @@ module _ (names : List (List ℕ)) (k : ℕ) (hk : k ≡ length (spaced names)) 
     pub lines_parts : length (name_lines names) ≡ length (name_text ilb names) + length (name_text ob names)
     lines_parts = ap length lines_are ∙ length-append (name_text ilb names) (name_text ob names)
 
-    pub put_lines_some : (d : List ℕ) (at : ℕ) (d' : List ℕ) (e : ℕ) (d'' : List ℕ) (g : ℕ) → at + length (name_lines names) ≤ length d
-        → Put d at (name_text ilb names) d' e → Put d' e (name_text ob names) d'' g → Put d at (name_lines names) d'' g
-    put_lines_some d at d' e d'' g h p q =
-        rw lines_are (put_then d at (name_text ilb names) d' e (name_text ob names) d'' g (omega (arith, lines_parts)) p q)
+    pub wrote_lines : {p q r : Page} → Wrote p (name_text ilb names) q → Wrote q (name_text ob names) r → Wrote p (name_lines names) r
+    wrote_lines a b = rw lines_are (wrote_then a b)

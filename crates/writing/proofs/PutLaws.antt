@@ -1,21 +1,23 @@
 -- Laws of writing one thing behind another.
-use Prim.Native.Nat.{ℕ, ◌+◌, ◌/◌, ◌%◌, ◌≤◌, ◌<◌}
+use borrow.Rule.Slice.PartMut.{put_mid}
+use Prim.Native.Nat.{ℕ, ◌+◌, ◌-◌, ◌/◌, ◌%◌, ◌≤◌, ◌<◌}
 use mathlib.Core.Path.{◌≡◌, refl, sym, ◌∙◌, ap}
 use mathlib.Core.List.{List, [], ◌∷◌, ◌++◌, append_assoc}
 use native.Mathlib.Omega.{arith}
 use native.Mathlib.Numerals.{add-one}
 use native.Mathlib.Nat.{add-zero, add_assoc}
-use lib.ListN.{length, get_or, set, take, drop, length-append, length-take, length-drop, take-append-drop}
-use lib.Seq.{length-take-le, take-suc, take_at, drop_at, set_split, drop-drop}
+use lib.ListN.{length, set, take, drop, length-append, length-drop, take-append-drop}
+use lib.Seq.{length-take-le, take_at, drop_at, set_split, drop-drop}
 use Rattle.fields.specs.Decimals.{decimal}
-use Rattle.fields.proofs.DecimalLaws.{decimal_one, decimal_more, decimal_longer}
-use Rattle.writing.specs.Writing.{written, Put}
+use Rattle.fields.proofs.DecimalLaws.{decimal_one, decimal_more}
+use Rattle.writing.specs.Writing.{written, Put, Wrote}
+use Rattle.writing.specs.declared.Page.{Page}
 
 pub put_none : (d : List ℕ) (at : ℕ) → Put d at [] d at
 unfolding written
 put_none d at = record { bytes = sym (ap (λ (k : ℕ). take at d ++ drop k d) (add-zero at) ∙ take-append-drop at d); behind = sym (add-zero at) }
 
-pub put_one : (d : List ℕ) (at b : ℕ) → at < length d → Put d at (b ∷ []) (set d at b) (at + 1)
+put_one : (d : List ℕ) (at b : ℕ) → at < length d → Put d at (b ∷ []) (set d at b) (at + 1)
 unfolding written
 put_one d at b h = record { bytes = set_split d at b h ∙ rw (← add-one at); behind = refl }
 
@@ -36,11 +38,8 @@ module _ (d : List ℕ) (at : ℕ) (s : List ℕ) (h : at + length s ≤ length 
   unfolding written
   written_length = simp (length-append, length-drop) (omega (arith, length-take-le at d (omega arith)))
 
-pub put_length : (d : List ℕ) (at : ℕ) (s d' : List ℕ) (e : ℕ) → at + length s ≤ length d → Put d at s d' e → length d' ≡ length d
-put_length d at s d' e h p = ap length p.bytes ∙ written_length d at s h
-
 -- one thing behind another
-pub put_then : (d : List ℕ) (at : ℕ) (s d' : List ℕ) (e : ℕ) (u d'' : List ℕ) (f : ℕ) → at + length s ≤ length d → Put d at s d' e → Put d' e u d'' f → Put d at (s ++ u) d'' f
+put_then : (d : List ℕ) (at : ℕ) (s d' : List ℕ) (e : ℕ) (u d'' : List ℕ) (f : ℕ) → at + length s ≤ length d → Put d at s d' e → Put d' e u d'' f → Put d at (s ++ u) d'' f
 unfolding written
 put_then d at s d' e u d'' f h p q =
     record {
@@ -56,28 +55,54 @@ put_then d at s d' e u d'' f h p q =
         sym (drop-drop (length u) (at + length s) (written d at s)) ∙ ap (λ (x : List ℕ). drop (length u) x) (written_back d at s h)
         ∙ drop-drop (length u) (at + length s) d ∙ rw (length-append s u) (ap (λ (k : ℕ). drop k d) (add_assoc at (length s) (length u)))
 
--- one byte more of a list of bytes
-pub put_next : (d : List ℕ) (at : ℕ) (s d' : List ℕ) (e i : ℕ) (d'' : List ℕ) (f : ℕ) → at + length s ≤ length d → i < length s
-    → Put d at (take i s) d' e → Put d' e (get_or s i 0 ∷ []) d'' f → Put d at (take (i + 1) s) d'' f
-put_next d at s d' e i d'' f h l p q =
-    rw (add-one i, take-suc s i 0 l) (put_then d at (take i s) d' e (get_or s i 0 ∷ []) d'' f (omega (arith, length-take i s)) p q)
+-- ---- on a page
+
+pub wrote_none : (p : Page) → p.at ≤ length p.out.now → Wrote p [] p
+wrote_none p h = record { same_reference = refl; room = omega arith; long = refl; put = put_none _ _ }
+
+-- a byte, and bytes, set in the lent bytes
+pub wrote_byte : (p q : Page) (b : ℕ) → p.at < length p.out.now → q.out.ghost_name ≡ p.out.ghost_name → q.out.now ≡ set p.out.now p.at b → q.at ≡ p.at + 1 → Wrote p (b ∷ []) q
+wrote_byte p q b h g o e =
+    let w = put_one p.out.now p.at b h in
+    record {
+      same_reference = g;
+      room = omega arith;
+      long = ap length o ∙ ap length w.bytes ∙ written_length p.out.now p.at (b ∷ []) (omega arith);
+      put = record { bytes = o ∙ w.bytes; behind = e };
+    }
+
+pub wrote_bytes : (p q : Page) (s ys : List ℕ) → p.at + length s ≤ length p.out.now → ys ≡ s → q.out.ghost_name ≡ p.out.ghost_name
+    → q.out.now ≡ put_mid p.at (p.at + length s - p.at) p.out.now ys → q.at ≡ p.at + length s → Wrote p s q
+unfolding written
+wrote_bytes p q s ys h y g o e =
+    let n : p.at + length s - p.at ≡ length s = omega arith in
+    let b : q.out.now ≡ written p.out.now p.at s = o ∙ rw (y, n) (ap (λ (x : List ℕ). take p.at p.out.now ++ (s ++ x)) (drop-drop (length s) p.at p.out.now)) in
+    record { same_reference = g; room = h; long = ap length b ∙ written_length p.out.now p.at s h; put = record { bytes = b; behind = e } }
+
+-- one thing behind another
+pub wrote_then : {p q r : Page} {s u : List ℕ} → Wrote p s q → Wrote q u r → Wrote p (s ++ u) r
+wrote_then {p} {q} {r} {s} {u} a b =
+    record {
+      same_reference = b.same_reference ∙ a.same_reference;
+      room = omega (arith, a.room, a.long, a.put.behind, b.room, length-append s u);
+      long = b.long ∙ a.long;
+      put = put_then _ _ s _ _ u _ _ a.room a.put b.put;
+    }
+
+-- on a page that was empty
+pub put_page : {p q : Page} {s d d' : List ℕ} {e : ℕ} → p.out.now ≡ d → p.at ≡ 0 → Wrote p s q → d' ≡ q.out.now → e ≡ q.at → Put d 0 s d' e
+put_page o z w a l = rw (a, l) (rw (o, z) at w.put)
 
 -- a line: a keyword, what it says, LF
 pub line_length : (key s : List ℕ) → length (key ++ (s ++ 10 ∷ [])) ≡ length key + (length s + 1)
 line_length key s = length-append key (s ++ 10 ∷ []) ∙ ap (λ (k : ℕ). length key + k) (length-append s (10 ∷ []))
 
-pub put_line : (d : List ℕ) (at : ℕ) (key s d₁ : List ℕ) (a : ℕ) (d₂ : List ℕ) (b : ℕ) (d₃ : List ℕ) (c : ℕ) → at + length (key ++ (s ++ 10 ∷ [])) ≤ length d
-    → Put d at key d₁ a → Put d₁ a s d₂ b → Put d₂ b (10 ∷ []) d₃ c → Put d at (key ++ (s ++ 10 ∷ [])) d₃ c
-put_line d at key s d₁ a d₂ b d₃ c h p q r =
-    let l = line_length key s in
-    put_then d at key d₁ a (s ++ 10 ∷ []) d₃ c (omega arith) p
-    (put_then d₁ a s d₂ b (10 ∷ []) d₃ c (omega (arith, p.behind, put_length d at key d₁ a (omega arith) p)) q r)
+pub wrote_line : {p q r t : Page} {key s : List ℕ} → Wrote p key q → Wrote q s r → Wrote r (10 ∷ []) t → Wrote p (key ++ (s ++ 10 ∷ [])) t
+wrote_line a b c = wrote_then a (wrote_then b c)
 
 -- a number: its only digit, or those of its tenth and the last
-pub put_digit : (d : List ℕ) (at v b : ℕ) (d' : List ℕ) (e : ℕ) → v < 10 → b ≡ 48 + v → Put d at (b ∷ []) d' e → Put d at (decimal v) d' e
-put_digit d at v b d' e h k p = rw (decimal_one v h, ← k) p
+pub wrote_digit : {p q : Page} (v : ℕ) → v < 10 → Wrote p ((48 + v % 10) ∷ []) q → Wrote p (decimal v) q
+wrote_digit v h w = let e : v % 10 ≡ v = omega arith in rw (decimal_one v h, ← e) w
 
-pub put_digits : (d : List ℕ) (at v : ℕ) (d' : List ℕ) (e b : ℕ) (d'' : List ℕ) (f : ℕ) → 10 ≤ v → at + length (decimal v) ≤ length d
-    → Put d at (decimal (v / 10)) d' e → b ≡ 48 + v % 10 → Put d' e (b ∷ []) d'' f → Put d at (decimal v) d'' f
-put_digits d at v d' e b d'' f h l p k q =
-    rw (decimal_more v h, ← k) (put_then d at (decimal (v / 10)) d' e (b ∷ []) d'' f (omega (arith, decimal_longer v h)) p q)
+pub wrote_digits : {p q r : Page} (v : ℕ) → 10 ≤ v → Wrote p (decimal (v / 10)) q → Wrote q ((48 + v % 10) ∷ []) r → Wrote p (decimal v) r
+wrote_digits v h a b = rw (decimal_more v h) (wrote_then a b)

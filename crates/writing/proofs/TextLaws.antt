@@ -13,9 +13,10 @@ use borrow.Author.Tests.{le-leb, lt-leb, leb-true, leb-false}
 use Rattle.fields.specs.Decimals.{decimal}
 use Rattle.writing.specs.TableText.{column_byte, columns, row_text, rows_text, header_text, name_lines, type_text, count_text, table_text}
 use Rattle.writing.specs.SheetText.{sheet_table, sheet_word, sheet_text}
-use Rattle.writing.specs.Writing.{Put, count_length, text_length}
+use Rattle.writing.specs.Writing.{Wrote, count_length, text_length}
+use Rattle.writing.specs.declared.Page.{Page}
 use Rattle.writing.specs.declared.Table.{Table}
-use Rattle.writing.proofs.PutLaws.{put_none, put_length, put_then, line_length, put_line}
+use Rattle.writing.proofs.PutLaws.{wrote_none, wrote_then, line_length, wrote_line}
 use Rattle.writing.proofs.NameLines.{lines_length}
 
 -- ---- columns
@@ -29,14 +30,20 @@ unfolding columns
 columns_length f zero = refl
 columns_length f (suc n) = length-append (columns f n) (f n ∷ []) ∙ rw (columns_length f n) (omega arith)
 
-pub put_column : (f : ℕ → ℕ) (d : List ℕ) (at n v : ℕ) (d' : List ℕ) (e b : ℕ) (d'' : List ℕ) (k : ℕ) → at + n ≤ length d → v < n
-    → Put d at (columns f v) d' e → b ≡ f v → Put d' e (b ∷ []) d'' k → Put d at (columns f (v + 1)) d'' k
-put_column f d at n v d' e b d'' k h l p q r =
-    rw (columns_more f v, ← q) (put_then d at (columns f v) d' e (b ∷ []) d'' k (omega (arith, columns_length f v)) p r)
+pub no_columns : (p : Page) (f : ℕ → ℕ) → p.at ≤ length p.out.now → Wrote p (columns f 0) p
+unfolding columns
+no_columns p f h = wrote_none p h
+
+pub wrote_column : {p q r : Page} (f : ℕ → ℕ) (v b : ℕ) → b ≡ f v → Wrote p (columns f v) q → Wrote q (b ∷ []) r → Wrote p (columns f (v + 1)) r
+wrote_column f v b e p q = rw (columns_more f v, ← e) (wrote_then p q)
 
 -- ---- rows
 
 module _ (ins outs : ℕ → ℕ → ℕ) (n : ℕ) where
+  pub no_rows : (p : Page) → p.at ≤ length p.out.now → Wrote p (rows_text ins outs n []) p
+  unfolding rows_text
+  no_rows p h = wrote_none p h
+
   pub row_length : (w : ℕ) → length (row_text ins outs n w) ≡ 2 * n + 2
   unfolding row_text
   row_length w =
@@ -73,10 +80,8 @@ module _ (ins outs : ℕ → ℕ → ℕ) (n : ℕ) where
           ap length (sym (rows_append (take (i + 1) ws) (drop (i + 1) ws)) ∙ ap (rows_text ins outs n) (take-append-drop (i + 1) ws)),
         )
 
-    pub put_row_next : (d : List ℕ) (at : ℕ) (d' : List ℕ) (e : ℕ) (d'' : List ℕ) (k : ℕ) → at + length (rows_text ins outs n ws) ≤ length d
-        → Put d at (rows_text ins outs n (take i ws)) d' e → Put d' e (row_text ins outs n (get_or ws i 0)) d'' k → Put d at (rows_text ins outs n (take (i + 1) ws)) d'' k
-    put_row_next d at d' e d'' k h p q =
-        rw rows_next (put_then d at (rows_text ins outs n (take i ws)) d' e (row_text ins outs n (get_or ws i 0)) d'' k (omega (arith, rows_room)) p q)
+    pub wrote_row : {p q r : Page} → Wrote p (rows_text ins outs n (take i ws)) q → Wrote q (row_text ins outs n (get_or ws i 0)) r → Wrote p (rows_text ins outs n (take (i + 1) ws)) r
+    wrote_row p q = rw rows_next (wrote_then p q)
 
 -- ---- headers
 
@@ -93,18 +98,6 @@ unfolding count_text count_length
 count_length_lem true k = header_length (46 ∷ 112 ∷ 32 ∷ []) k ∙ omega arith
 count_length_lem false k = refl
 
-pub count_there : (counted : Bool) (k : ℕ) → counted ≡ true → length (count_text counted k) ≡ length (header_text (46 ∷ 112 ∷ 32 ∷ []) k)
-unfolding count_text
-count_there counted k e = rw e
-
-pub put_count_there : (d : List ℕ) (at : ℕ) (counted : Bool) (k : ℕ) (d' : List ℕ) (e : ℕ) → counted ≡ true → Put d at (header_text (46 ∷ 112 ∷ 32 ∷ []) k) d' e → Put d at (count_text counted k) d' e
-unfolding count_text
-put_count_there d at counted k d' e c p = rw c p
-
-pub put_count_none : (d : List ℕ) (at : ℕ) (counted : Bool) (k : ℕ) → counted ≡ false → Put d at (count_text counted k) d at
-unfolding count_text
-put_count_none d at counted k c = rw c (put_none d at)
-
 -- ---- the whole
 
 pub table_parts : (t : Table) (word : List ℕ) (n : ℕ) (names : List (List ℕ)) (ws : List ℕ) → length (table_text t word n names ws)
@@ -113,50 +106,24 @@ unfolding table_text
 table_parts t word n names ws = simp length-append (omega arith)
 
 -- three, four and seven things one behind the other
-module _ (d : List ℕ) (at : ℕ) where
-  pub put_header_text : (key : List ℕ) (v : ℕ) (d₁ : List ℕ) (a : ℕ) (d₂ : List ℕ) (b : ℕ) (d₃ : List ℕ) (c : ℕ) → at + length (header_text key v) ≤ length d
-      → Put d at key d₁ a → Put d₁ a (decimal v) d₂ b → Put d₂ b (10 ∷ []) d₃ c → Put d at (header_text key v) d₃ c
-  unfolding header_text
-  put_header_text key v = put_line d at key (decimal v)
+pub wrote_header : {p q r t : Page} {key : List ℕ} (v : ℕ) → Wrote p key q → Wrote q (decimal v) r → Wrote r (10 ∷ []) t → Wrote p (header_text key v) t
+unfolding header_text
+wrote_header v a b c = wrote_line a b c
 
-  pub put_type_text : (word d₁ : List ℕ) (a : ℕ) (d₂ : List ℕ) (b : ℕ) (d₃ : List ℕ) (c : ℕ) → at + length (type_text word) ≤ length d
-      → Put d at (46 ∷ 116 ∷ 121 ∷ 112 ∷ 101 ∷ 32 ∷ []) d₁ a → Put d₁ a word d₂ b → Put d₂ b (10 ∷ []) d₃ c → Put d at (type_text word) d₃ c
-  unfolding type_text
-  put_type_text word = put_line d at (46 ∷ 116 ∷ 121 ∷ 112 ∷ 101 ∷ 32 ∷ []) word
+pub wrote_type : {p q r t : Page} {word : List ℕ} → Wrote p (46 ∷ 116 ∷ 121 ∷ 112 ∷ 101 ∷ 32 ∷ []) q → Wrote q word r → Wrote r (10 ∷ []) t → Wrote p (type_text word) t
+unfolding type_text
+wrote_type a b c = wrote_line a b c
 
-  pub put_row_text : (ins outs : ℕ → ℕ → ℕ) (n w : ℕ) (d₁ : List ℕ) (a : ℕ) (d₂ : List ℕ) (b : ℕ) (d₃ : List ℕ) (c : ℕ) (d₄ : List ℕ) (e : ℕ) → at + length (row_text ins outs n w) ≤ length d
-      → Put d at (columns (ins w) n) d₁ a → Put d₁ a (32 ∷ []) d₂ b → Put d₂ b (columns (outs w) n) d₃ c → Put d₃ c (10 ∷ []) d₄ e
-      → Put d at (row_text ins outs n w) d₄ e
-  unfolding row_text
-  put_row_text ins outs n w d₁ a d₂ b d₃ c d₄ e h p q r s =
-      let l = row_length ins outs n w in
-      let i = columns_length (ins w) n in
-      let o = columns_length (outs w) n in
-      let l₁ = put_length d at (columns (ins w) n) d₁ a (omega arith) p in
-      let l₂ = put_length d₁ a (32 ∷ []) d₂ b (omega (arith, p.behind)) q in
-      put_then d at (columns (ins w) n) d₁ a (32 ∷ (columns (outs w) n ++ 10 ∷ [])) d₄ e (omega arith) p
-      (put_then d₁ a (32 ∷ []) d₂ b (columns (outs w) n ++ 10 ∷ []) d₄ e (omega (arith, p.behind)) q
-      (put_then d₂ b (columns (outs w) n) d₃ c (10 ∷ []) d₄ e (omega (arith, p.behind, q.behind)) r s))
+pub wrote_row_text : {p q r t u : Page} (ins outs : ℕ → ℕ → ℕ) (n w : ℕ) → Wrote p (columns (ins w) n) q → Wrote q (32 ∷ []) r → Wrote r (columns (outs w) n) t → Wrote t (10 ∷ []) u → Wrote p (row_text ins outs n w) u
+unfolding row_text
+wrote_row_text ins outs n w a b c d = wrote_then a (wrote_then b (wrote_then c d))
 
-  pub put_table_text : (t : Table) (word : List ℕ) (n : ℕ) (names : List (List ℕ)) (ws d₁ : List ℕ) (a : ℕ) (d₂ : List ℕ) (b : ℕ) (d₃ : List ℕ) (c : ℕ) (d₄ : List ℕ) (e : ℕ) (d₅ : List ℕ) (f : ℕ) (d₆ : List ℕ) (g : ℕ) (d₇ : List ℕ) (k : ℕ)
-      → at + length (table_text t word n names ws) ≤ length d
-      → Put d at (header_text (46 ∷ 105 ∷ 32 ∷ []) n) d₁ a → Put d₁ a (header_text (46 ∷ 111 ∷ 32 ∷ []) n) d₂ b → Put d₂ b (name_lines names) d₃ c
-      → Put d₃ c (type_text word) d₄ e → Put d₄ e (count_text t.counted (length ws)) d₅ f
-      → Put d₅ f (rows_text (column_byte t.ins) (column_byte t.outs) n ws) d₆ g → Put d₆ g (46 ∷ 101 ∷ 10 ∷ []) d₇ k → Put d at (table_text t word n names ws) d₇ k
-  unfolding table_text
-  put_table_text tb word n names ws d₁ a d₂ b d₃ c d₄ e d₅ f d₆ g d₇ k h i o m y p r u =
-      let l = table_parts tb word n names ws in
-      let l₁ = put_length d at _ d₁ a (omega arith) i in
-      let l₂ = put_length d₁ a _ d₂ b (omega (arith, i.behind)) o in
-      let l₃ = put_length d₂ b _ d₃ c (omega (arith, i.behind, o.behind)) m in
-      let l₄ = put_length d₃ c _ d₄ e (omega (arith, i.behind, o.behind, m.behind)) y in
-      let l₅ = put_length d₄ e _ d₅ f (omega (arith, i.behind, o.behind, m.behind, y.behind)) p in
-      put_then d at _ d₁ a _ d₇ k (omega arith) i
-      (put_then d₁ a _ d₂ b _ d₇ k (omega (arith, i.behind)) o
-      (put_then d₂ b _ d₃ c _ d₇ k (omega (arith, i.behind, o.behind)) m
-      (put_then d₃ c _ d₄ e _ d₇ k (omega (arith, i.behind, o.behind, m.behind)) y
-      (put_then d₄ e _ d₅ f _ d₇ k (omega (arith, i.behind, o.behind, m.behind, y.behind)) p
-      (put_then d₅ f _ d₆ g _ d₇ k (omega (arith, i.behind, o.behind, m.behind, y.behind, p.behind)) r u)))))
+pub put_table_text : {p a b c d e f q : Page} (t : Table) (word : List ℕ) (n : ℕ) (names : List (List ℕ)) (ws : List ℕ)
+    → Wrote p (header_text (46 ∷ 105 ∷ 32 ∷ []) n) a → Wrote a (header_text (46 ∷ 111 ∷ 32 ∷ []) n) b → Wrote b (name_lines names) c
+    → Wrote c (type_text word) d → Wrote d (count_text t.counted (length ws)) e
+    → Wrote e (rows_text (column_byte t.ins) (column_byte t.outs) n ws) f → Wrote f (46 ∷ 101 ∷ 10 ∷ []) q → Wrote p (table_text t word n names ws) q
+unfolding table_text
+put_table_text t word n names ws i o m y k r u = wrote_then i (wrote_then o (wrote_then m (wrote_then y (wrote_then k (wrote_then r u)))))
 
 -- the length of the text is known before it is written
 pub table_length : (t : Table) (word : List ℕ) (n : ℕ) (names : List (List ℕ)) (ws : List ℕ) → length (table_text t word n names ws) ≡ text_length t word n names (length ws)

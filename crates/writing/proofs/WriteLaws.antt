@@ -10,7 +10,8 @@ use lib.ListN.{length, take, drop}
 use lib.Seq.{length-take-le}
 use borrow.Author.Tests.{lt-ltb, le-ltb, ltb-true, ltb-false, leb-true, leb-false, le-leb, lt-leb}
 use Rattle.table.proofs.Basics.{and_r}
-use Rattle.answers.proofs.Laws.{refuse_none, if_refused}
+use Rattle.answers.proofs.Laws.{refuse_none}
+use Rattle.std.specs.Prelude.{Ok}
 use Rattle.fields.specs.Decimals.{decimal}
 use Rattle.fields.specs.Fields.{fields_in}
 use Rattle.fields.specs.declared.Span.{Span}
@@ -21,7 +22,8 @@ use Rattle.panel.specs.Masks.{panel_size}
 use Rattle.prime.specs.Sheets.{good_sheet}
 use Rattle.writing.specs.TableText.{table_text}
 use Rattle.writing.specs.SheetText.{sheet_table, sheet_word, sheet_text}
-use Rattle.writing.specs.Writing.{Put, count_length, names_length, text_length, write_code, with_length, WritesNamed}
+use Rattle.writing.specs.Writing.{Put, Room, count_length, names_length, text_length, write_code, with_length, write_answer, WritesNamed}
+use Rattle.writing.specs.declared.Page.{Page}
 use Rattle.writing.specs.declared.Table.{Table}
 use Rattle.writing.specs.declared.WriteAnswer.{WriteAnswer}
 use Rattle.writing.proofs.NameLines.{names_length_none, names_length_some}
@@ -62,85 +64,46 @@ module _ (t : Table) (word : List ℕ) (n : ℕ) (names : List (List ℕ)) (coun
   fits_rest r h e =
       e ∙ leb_behind (18 + length word + 2 * a + b) (names_length names + count * (2 * n + 2)) room h ∙ ap (λ (x : ℕ). leb x room) (omega arith)
 
-pub count_digits : (counted : Bool) (k d : ℕ) → d ≡ length (decimal k) → counted ≡ true → 4 + d ≡ count_length counted k
-unfolding count_length
-count_digits counted k d e c = rw (c, e)
-
-pub count_none : (counted : Bool) (k : ℕ) → counted ≡ false → 0 ≡ count_length counted k
-unfolding count_length
-count_none counted k c = rw c
-
 -- ---- the codes in order
 
 pub size_small : (n : ℕ) → panel_size n ≡ true → n ≤ 10
 unfolding panel_size
 size_small n h = omega (arith, ltb-true n 11 (and_r (ltb 0 n) (ltb n 11) h))
 
-module _ (n : ℕ) (names : List (List ℕ)) (sheet : List ℕ) (count room : ℕ) where
-  pub code_2 : panel_size n ≡ false → 2 ≡ write_code n names sheet count room
-  unfolding write_code
-  code_2 p = rw p
+-- the text of the rules is longer than the room exactly where its length before it is written does not fit
+pub text_kept : (n : ℕ) (names : List (List ℕ)) (sheet : List ℕ) (count room : ℕ) → count ≤ length sheet → ltb room (length (sheet_text n names (take count sheet))) ≡ not (leb (text_length sheet_table sheet_word n names count) room)
+text_kept n names sheet count room c =
+    ap (ltb room) (sheet_length n names (take count sheet) ∙ ap (text_length sheet_table sheet_word n names) (length-take-le count sheet c))
+    ∙ go (leb (text_length sheet_table sheet_word n names count) room) refl
+  where
+    go : (b : Bool) → leb (text_length sheet_table sheet_word n names count) room ≡ b → ltb room (text_length sheet_table sheet_word n names count) ≡ not b
+    go true e = le-ltb room _ (leb-true _ room e)
+    go false e = lt-ltb room _ (leb-false _ room e)
 
-  module _ (p : panel_size n ≡ true) where
-    pub code_3 : length sheet < count → 3 ≡ write_code n names sheet count room
-    unfolding write_code
-    code_3 c = rw (p, lt-ltb (length sheet) count c)
-
-    module _ (c : count ≤ length sheet) where
-      pub code_5 : good_sheet n (take count sheet) ≡ false → 5 ≡ write_code n names sheet count room
-      unfolding write_code
-      code_5 g = rw (p, le-ltb (length sheet) count c, g)
-
-      module _ (g : good_sheet n (take count sheet) ≡ true) where
-        long : length (sheet_text n names (take count sheet)) ≡ text_length sheet_table sheet_word n names count
-        long = sheet_length n names (take count sheet) ∙ ap (text_length sheet_table sheet_word n names) (length-take-le count sheet c)
-
-        module _ (t : Table) (ht : t ≡ sheet_table) where
-          fits_is : leb (text_length sheet_table sheet_word n names count) room ≡ leb (text_length t sheet_word n names count) room
-          fits_is = ap (λ (x : Table). leb (text_length x sheet_word n names count) room) (sym ht)
-
-          pub code_12 : leb (text_length t sheet_word n names count) room ≡ false → 12 ≡ write_code n names sheet count room
-          unfolding write_code
-          code_12 f = rw (p, le-ltb (length sheet) count c, g, long, lt-ltb room (text_length sheet_table sheet_word n names count) (leb-false _ room (fits_is ∙ f)))
-
-          pub code_0 : leb (text_length t sheet_word n names count) room ≡ true → 0 ≡ write_code n names sheet count room
-          unfolding write_code
-          code_0 f = rw (p, le-ltb (length sheet) count c, g, long, le-ltb room (text_length sheet_table sheet_word n names count) (leb-true _ room (fits_is ∙ f)))
-
--- code 0: the count is in the slice, and the text in the room
-pub record RoomFor (n : ℕ) (names : List (List ℕ)) (sheet : List ℕ) (count room : ℕ) : Type 0 where
-  pub counted : count ≤ length sheet
-  pub fits : length (sheet_text n names (take count sheet)) ≤ room
-
-pub ready : (n : ℕ) (names : List (List ℕ)) (sheet : List ℕ) (count room : ℕ) → write_code n names sheet count room ≡ 0 → RoomFor n names sheet count room
+-- code 0: the text is in the room
+text_room : (n : ℕ) (names : List (List ℕ)) (sheet : List ℕ) (count room : ℕ) → 0 ≡ write_code n names sheet count room → length (sheet_text n names (take count sheet)) ≤ room
 unfolding write_code
-ready n names sheet count room h =
-    let p = refuse_none (not (panel_size n)) 1 _ h in
+text_room n names sheet count room h =
+    let p = refuse_none (not (panel_size n)) 1 _ (sym h) in
     let c = refuse_none (ltb (length sheet) count) 2 _ p.1 in
     let g = refuse_none (not (good_sheet n (take count sheet))) 4 _ c.1 in
     let f = refuse_none (ltb room (length (sheet_text n names (take count sheet)))) 11 0 g.1 in
-    record { counted = ltb-false (length sheet) count c.0; fits = ltb-false room _ f.0 }
-
--- the text of a sheet is that of its table
-pub as_table : (t : Table) → t ≡ sheet_table → (n : ℕ) (names : List (List ℕ)) (ws : List ℕ) → table_text t sheet_word n names ws ≡ sheet_text n names ws
-unfolding sheet_text
-as_table t h n names ws = ap (λ (x : Table). table_text x sheet_word n names ws) h
+    ltb-false room _ f.0
 
 -- ---- what `write_sheet` leaves, over what its calls answer
 
-module _ (n : ℕ) (names : List (List ℕ)) (sheet : List ℕ) (count : ℕ) (before : List ℕ) (code : ℕ) (h : code ≡ write_code n names sheet count (length before)) (r : WriteAnswer) where
-  pub write_refused : (code ≡ 0 → ⊥) → r ≡ with_length code 0 → WritesNamed n names sheet count before before r
-  write_refused z a =
-      record {
-        answer = rw (← h) (a ∙ ap (λ (l : ℕ). with_length code l) (sym (if_refused code _ _ z)));
-        bytes = rw (← h) (sym (if_refused code _ before z));
-      }
+module _ (n : ℕ) (names : List (List ℕ)) (sheet : List ℕ) (count : ℕ) (before : List ℕ) where
+  -- with code 0 there is room for the text, and it is written
+  module _ (rules : List ℕ) (h : 0 ≡ write_code n names sheet count (length before)) (r : rules ≡ take count sheet) where
+    pub page_room : (p : Page) → p.out.now ≡ before → p.at ≡ 0 → Room p (table_text sheet_table sheet_word n names rules)
+    unfolding sheet_text
+    page_room p o z = rw (o, z, r) (omega (arith, text_room n names sheet count (length before) h))
 
-  pub write_done : (t : Table) → t ≡ sheet_table → (after : List ℕ) (e : ℕ) → code ≡ 0 → Put before 0 (table_text t sheet_word n names (take count sheet)) after e → r ≡ with_length 0 e → WritesNamed n names sheet count before after r
-  write_done t ht after e z q a =
-      let p : Put before 0 (sheet_text n names (take count sheet)) after e = rw (← as_table t ht n names (take count sheet)) q in
-      let l : e ≡ length (sheet_text n names (take count sheet)) = omega (arith, p.behind) in
-      record { answer = rw (← h, z) (a ∙ ap (λ (k : ℕ). with_length 0 k) l); bytes = rw (← h, z) p.bytes }
+    pub write_done : (after : List ℕ) (e : ℕ) → Put before 0 (table_text sheet_table sheet_word n names rules) after e → WritesNamed n names sheet count before after (write_answer (Ok e))
+    unfolding sheet_text
+    write_done after e q =
+        let p : Put before 0 (sheet_text n names (take count sheet)) after e = rw (← r) q in
+        record { answer = rw (← h) (ap (with_length 0) (omega (arith, p.behind))); bytes = rw (← h) p.bytes }
 
 -- the names that `write_sheet` finds in a name line
 pub names_found : (panel maker : List ℕ) (n : ℕ) (line : List ℕ) (p : Span) → line ≡ name_line panel maker n → NamesAt line p

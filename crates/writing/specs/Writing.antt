@@ -1,12 +1,15 @@
 -- What writing a sheet answers, and what it leaves in the lent bytes.
-use Rattle.std.specs.Prelude.{ℕ, ◌+◌, ◌*◌, ◌≡◌, List, [], ◌∷◌, ◌++◌, Bool, cond, not, ltb, length, take, drop}
+use Rattle.std.specs.Prelude.{ℕ, ◌+◌, ◌*◌, ◌≡◌, List, [], ◌∷◌, ◌++◌, Bool, cond, not, ltb, length, take, drop, ◌≤◌, Result, Ok, Err}
 use Rattle.answers.specs.Answers.{refuse, plain, if_done}
+use Rattle.answers.specs.Refusals.{code_of}
+use Rattle.answers.specs.declared.Refusal.{Refusal}
 use Rattle.fields.specs.Decimals.{decimal}
 use Rattle.names.specs.Names.{spaced}
 use Rattle.naming.specs.Columns.{names_for}
 use Rattle.panel.specs.Masks.{panel_size}
 use Rattle.prime.specs.Sheets.{good_sheet}
 use Rattle.writing.specs.SheetText.{sheet_text}
+use Rattle.writing.specs.declared.Page.{Page}
 use Rattle.writing.specs.declared.Table.{Table}
 use Rattle.writing.specs.declared.WriteAnswer.{WriteAnswer}
 
@@ -18,6 +21,17 @@ written d at s = take at d ++ (s ++ drop (at + length s) d)
 pub record Put (d : List ℕ) (at : ℕ) (s d' : List ℕ) (e : ℕ) : Type 0 where
   pub bytes : d' ≡ written d at s
   pub behind : e ≡ at + length s
+
+-- the page p has room for s
+abbrev pub Room : Page → List ℕ → Type 0
+Room p s = p.at + length s ≤ length p.out.now
+
+-- s was written on the page p, which had room for it, and q is the page then: the same lent bytes, with s behind what stood there
+pub record Wrote (p : Page) (s : List ℕ) (q : Page) : Type 0 where
+  pub same_reference : q.out.ghost_name ≡ p.out.ghost_name
+  pub room : p.at + length s ≤ length p.out.now
+  pub long : length q.out.now ≡ length p.out.now
+  pub put : Put p.out.now p.at s q.out.now q.at
 
 -- how long a line `.p k` is, where there is one
 unfoldable pub count_length : Bool → ℕ → ℕ
@@ -43,6 +57,11 @@ write_code n names sheet count room =
 -- a code and a length; the numbers that writing has no use for are 0
 abbrev pub with_length : ℕ → ℕ → WriteAnswer
 with_length code len = record { answer = plain code 0 0 0; length = len }
+
+-- the length of what was written, or the code of a refusal
+abbrev pub write_answer : Result ℕ Refusal → WriteAnswer
+write_answer (Ok len) = with_length 0 len
+write_answer (Err why) = with_length (code_of why) 0
 
 -- a sheet is written with some names: done, the text stands at the start and its length is returned; refused, the length is 0 and no byte is changed
 pub record WritesNamed (n : ℕ) (names : List (List ℕ)) (sheet : List ℕ) (count : ℕ) (before after : List ℕ) (r : WriteAnswer) : Type 0 where

@@ -1,9 +1,11 @@
--- What the loop of this function keeps.
-use Rattle.writing.proofs.NameLines.{Counting}
+-- The sum counts the names that the iterator does not have left.
+use Prim.Native.Nat.{◌+◌}
+use Rattle.fields.specs.Fields.{fields_in}
+use Rattle.names.specs.Names.{spaced}
+use Rattle.writing.proofs.NameLines.{names_left}
+use lib.ListN.{length, take}
+use mathlib.Core.Path.{◌≡◌}
 use Rattle.writing.proofs.spaced_length.Given as goal
 
-abbrev pub invariant-loop-left : goal.invariant-loop-left
-invariant-loop-left l = Counting l.names l.n l.sum l.i l.left
-
-abbrev pub decreases-loop-left : goal.decreases-loop-left
-decreases-loop-left l = l.left
+abbrev pub invariant-loop-name : goal.invariant-loop-name
+invariant-loop-name l = l.sum + length (spaced (names_left l.name-iterator)) ≡ length (spaced (take l.n (fields_in l.names)))

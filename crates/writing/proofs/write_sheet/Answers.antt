@@ -4,4 +4,4 @@ use Rattle.writing.proofs.write_sheet.Goals as goal
 
 pub returns : goal.returns
 returns c =
-    write_with _ _ _ _ _ _ _ _ (names_found c.args.panel.now c.args.maker.now c.args.n c.name_line-line.result.now c.names_span-p.result c.name_line-line.ensures c.names_span-p.ensures) c.write_named.ensures
+    rw c.write_answer.ensures (write_with _ _ _ _ _ _ _ _ (names_found c.args.panel.now c.args.maker.now c.args.n c.name_line-line.result.now c.names_span-at.result c.name_line-line.ensures c.names_span-at.ensures) c.write_named.ensures)
