@@ -11,8 +11,9 @@ use borrow.Author.Tests.{le-leb, lt-leb, ltb-true, ltb-false}
 use Rattle.fields.specs.Decimals.{decimal}
 use Rattle.fields.proofs.DecimalLaws.{decimal_one, decimal_longer}
 use Rattle.writing.specs.TableText.{header_text}
-use Rattle.writing.specs.Writing.{Put}
-use Rattle.writing.proofs.PutLaws.{put_none, put_then, put_length}
+use Rattle.writing.specs.Writing.{Put, Wrote}
+use Rattle.writing.specs.declared.Page.{Page}
+use Rattle.writing.proofs.PutLaws.{put_none, put_page, wrote_then}
 use Rattle.writing.proofs.TextLaws.{header_length}
 use Rattle.program.specs.Program.{refusal_line, if_room}
 
@@ -49,12 +50,9 @@ room_no room s h = rw (lt-leb (length s) room h)
 pub put_no_line : (d : List ℕ) (c p k : ℕ) → k ≡ length (refusal_line c p) → length d < k → Put d 0 (if_room (length d) (refusal_line c p)) d 0
 put_no_line d c p k e h = rw (room_no (length d) (refusal_line c p) (omega arith)) (put_none d 0)
 
-pub put_line : (d : List ℕ) (c p k : ℕ) (d₁ : List ℕ) (a : ℕ) (d₂ : List ℕ) (b : ℕ) (d₃ : List ℕ) (e : ℕ) → k ≡ length (refusal_line c p) → k ≤ length d
-    → Put d 0 (114 ∷ 101 ∷ 102 ∷ 117 ∷ 115 ∷ 101 ∷ 100 ∷ 32 ∷ []) d₁ a → Put d₁ a (decimal c) d₂ b → Put d₂ b (header_text (32 ∷ 97 ∷ 116 ∷ 32 ∷ []) p) d₃ e
-    → Put d 0 (if_room (length d) (refusal_line c p)) d₃ e
+pub put_line : (d d' : List ℕ) (c p k e : ℕ) {a x y q : Page} → k ≡ length (refusal_line c p) → k ≤ length d → a.out.now ≡ d → a.at ≡ 0
+    → Wrote a (114 ∷ 101 ∷ 102 ∷ 117 ∷ 115 ∷ 101 ∷ 100 ∷ 32 ∷ []) x → Wrote x (decimal c) y → Wrote y (header_text (32 ∷ 97 ∷ 116 ∷ 32 ∷ []) p) q
+    → d' ≡ q.out.now → e ≡ q.at → Put d 0 (if_room (length d) (refusal_line c p)) d' e
 unfolding refusal_line
-put_line d c p k d₁ a d₂ b d₃ e hk h x y z =
-    let l = line_length_is c p in
-    let m = put_length d 0 _ d₁ a (omega arith) x in
-    rw (room_yes (length d) (refusal_line c p) (omega arith))
-    (put_then d 0 _ d₁ a _ d₃ e (omega arith) x (put_then d₁ a _ d₂ b _ d₃ e (omega (arith, x.behind)) y z))
+put_line d d' c p k e h l o z u v w m n =
+    rw (room_yes (length d) (refusal_line c p) (omega arith)) (put_page o z (wrote_then u (wrote_then v w)) m n)

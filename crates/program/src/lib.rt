@@ -5,7 +5,11 @@ ghost use Rattle.std.specs.Prelude.{◌≡◌, length};
 ghost use Rattle.writing.specs.Writing.{Put};
 ghost use Rattle.program.specs.Program.{refusal_line, if_room, Runs, Sheets};
 
+use answers::Refusal;
+use writing::Page;
+
 // How long the line of a refusal is.
+#[tactic(auto, using(crate::proofs::LineLaws::digits_few, crate::proofs::LineLaws::line_length_is))]
 fn line_length(code: usize, place: usize) -> usize
     ensures { result ≡ length (refusal_line code place) }
 {
@@ -20,9 +24,11 @@ fn put_refusal(code: u32, place: usize, out: &mut [u8]) -> usize
     if out.len() < line_length(number, place) {
         return 0;
     }
-    let a = writing::put_bytes(out, 0, b"refused ");
-    let b = writing::put_number(out, a, number);
-    writing::put_header(out, b, b" at ", place)
+    let mut page = Page::new(out);
+    page.bytes(b"refused ");
+    page.number(number);
+    page.header(b" at ", place);
+    page.length()
 }
 
 // Learns the words of a text, and writes their sheet, with the text's own names, or the refusal.
@@ -41,9 +47,8 @@ fn put_learned(
         return put_refusal(learned.code, learned.place, out);
     }
     let w = writing::write_sheet(n, sheet, learned.sheet_count, text, b"", out);
-    let answer = w.answer;
-    if answer.code != 0 {
-        return put_refusal(answer.code, 0, out);
+    if w.answer.code != 0 {
+        return put_refusal(w.answer.code, 0, out);
     }
     w.length
 }
@@ -59,13 +64,11 @@ pub fn run(
     ensures { Runs input.now list.old book.old sheet.old output.old list.new book.new sheet.new output.new result }
 {
     if 24576 < input.len() {
-        return put_refusal(13, 0, output);
+        return put_refusal(Refusal::TooLong.code(), 0, output);
     }
     let read = reading::read(input, list);
     if read.code != 0 {
         return put_refusal(read.code, read.place, output);
     }
-    let n = read.n;
-    let count = read.count;
-    put_learned(n, input, &list[..count], book, sheet, output)
+    put_learned(read.n, input, &list[..read.count], book, sheet, output)
 }

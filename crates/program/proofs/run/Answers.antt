@@ -6,7 +6,7 @@ use native.Mathlib.Omega.{arith}
 use Rattle.program.proofs.run.Goals as goal
 
 pub returns-then-input-gt24576 : goal.returns-then-input-gt24576
-returns-then-input-gt24576 c = run_too_long _ _ _ _ _ c.if-input-gt24576.true _ _ c.put_refusal.ensures
+returns-then-input-gt24576 c = run_too_long _ _ _ _ _ c.if-input-gt24576.true _ _ (rw c.code.ensures at c.put_refusal.ensures)
 
 pub returns-then-read-ne0 : goal.returns-then-read-ne0
 returns-then-read-ne0 c =
