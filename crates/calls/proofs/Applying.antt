@@ -1,11 +1,11 @@
--- Apply: its ladder of refusals, and its answer.
+-- Apply: what is known where nothing is refused, and its answer.
 use mathlib.Core.Path.{◌≡◌, refl, sym, ap, ap₂, ◌∙◌}
-use mathlib.Core.Bool.{Bool, true, false, not, ◌&&◌}
+use mathlib.Core.Bool.{true, not, ◌&&◌}
 use mathlib.Core.List.{List}
-use Prim.Native.Nat.{ℕ, zero, suc, ◌^◌, ◌≤◌, ◌<◌}
+use Prim.Native.Nat.{ℕ, zero, suc, ◌≤◌}
 use lib.Dec.{ltb}
 use lib.ListN.{length, take}
-use borrow.Author.Tests.{ltb-false, lt-ltb, le-ltb, not-false}
+use borrow.Author.Tests.{ltb-false, not-false}
 use Rattle.table.specs.Lists.{all, increasing}
 use Rattle.table.proofs.Basics.{and_l}
 use Rattle.panel.specs.Masks.{panel_size}
@@ -17,30 +17,6 @@ use Rattle.answers.proofs.Laws.{refuse_none}
 use Rattle.calls.specs.Apply.{apply_code, apply_answer}
 use Rattle.calls.specs.declared.Applied.{Applied}
 use Rattle.calls.proofs.Codes.{size_of}
-
-module _ (n : ℕ) (sheet : List ℕ) (sheetCount x : ℕ) (a : Bool) (ea : a ≡ panel_size n) where
-  pub apply_size : a ≡ false → 2 ≡ apply_code n sheet sheetCount x
-  unfolding apply_code
-  apply_size e = sym (simp (sym ea ∙ e))
-
-  module _ (e : a ≡ true) where
-    pub apply_count : length sheet < sheetCount → 3 ≡ apply_code n sheet sheetCount x
-    unfolding apply_code
-    apply_count l = sym (simp (sym ea ∙ e, lt-ltb (length sheet) sheetCount l))
-
-    module _ (l : sheetCount ≤ length sheet) (b : Bool) (eb : b ≡ good_sheet n (take sheetCount sheet)) where
-      pub apply_bad : b ≡ false → 5 ≡ apply_code n sheet sheetCount x
-      unfolding apply_code
-      apply_bad f = sym (simp (sym ea ∙ e, le-ltb (length sheet) sheetCount l, sym eb ∙ f))
-
-      module _ (f : b ≡ true) (p : ℕ) (ep : p ≡ 2 ^ n) where
-        pub apply_large : p ≤ x → 6 ≡ apply_code n sheet sheetCount x
-        unfolding apply_code
-        apply_large h = sym (simp (sym ea ∙ e, le-ltb (length sheet) sheetCount l, sym eb ∙ f, ap (ltb x) (sym ep) ∙ le-ltb x p h))
-
-        pub apply_ok : x < p → 0 ≡ apply_code n sheet sheetCount x
-        unfolding apply_code
-        apply_ok h = sym (simp (sym ea ∙ e, le-ltb (length sheet) sheetCount l, sym eb ∙ f, ap (ltb x) (sym ep) ∙ lt-ltb x p h))
 
 -- what is known where nothing refused
 pub apply_none : (n : ℕ) (sheet : List ℕ) (sheetCount x c : ℕ) → c ≡ apply_code n sheet sheetCount x → c ≡ 0 → (n ≤ 10) × (sheetCount ≤ length sheet) × (all (valid_rule n) (take sheetCount sheet) ≡ true)

@@ -1,18 +1,17 @@
--- The ladders of refusals, one law for each way out; and what is known once nothing refused.
-use mathlib.Core.Path.{◌≡◌, refl, sym, ap, ◌∙◌}
+-- What is known once nothing is refused.
+use mathlib.Core.Path.{◌≡◌, refl, sym}
 use mathlib.Core.Bool.{Bool, true, false, not, ◌&&◌, ◌||◌, false≢true}
 use mathlib.Core.List.{List}
 use Prim.Native.Nat.{ℕ, ◌^◌, ◌≤◌, ◌<◌}
 use native.Mathlib.Nat.{le_of_suc-le-suc}
 use lib.Dec.{ltb}
 use lib.ListN.{length, take}
-use borrow.Author.Tests.{ltb-true, ltb-false, lt-ltb, le-ltb, not-false}
+use borrow.Author.Tests.{ltb-true, ltb-false, not-false}
 use Rattle.table.proofs.Basics.{and_l, and_r}
 use Rattle.panel.specs.Masks.{panel_size}
 use Rattle.prime.specs.Sheets.{good_sheet}
 use Rattle.book.specs.Books.{good_book}
 use Rattle.answers.proofs.Laws.{refuse_none}
-use Rattle.calls.specs.Fresh.{fresh_code}
 use Rattle.calls.specs.Take.{given_code}
 
 -- ---- n
@@ -21,69 +20,7 @@ pub size_of : (n : ℕ) → panel_size n ≡ true → (0 < n) × (n ≤ 10)
 unfolding panel_size
 size_of n e = (ltb-true 0 n (and_l (ltb 0 n) (ltb n 11) e), le_of_suc-le-suc (ltb-true n 11 (and_r (ltb 0 n) (ltb n 11) e)))
 
--- ---- fresh
-
-module _ (n room : ℕ) (x : Bool) (ex : x ≡ panel_size n) where
-  pub fresh_size : x ≡ false → 2 ≡ fresh_code n room
-  unfolding fresh_code
-  fresh_size e = sym (simp (sym ex ∙ e))
-
-  pub fresh_room : x ≡ true → room < n → 9 ≡ fresh_code n room
-  unfolding fresh_code
-  fresh_room e l = sym (simp (sym ex ∙ e, lt-ltb room n l))
-
-  pub fresh_ok : x ≡ true → n ≤ room → 0 ≡ fresh_code n room
-  unfolding fresh_code
-  fresh_ok e l = sym (simp (sym ex ∙ e, le-ltb room n l))
-
--- ---- the refusals 2 to 6 of a take
-
-module _ (spoilt : Bool) (n : ℕ) (book : List ℕ) (bookCount : ℕ) (sheet : List ℕ) (sheetCount i j : ℕ) (x : Bool) (ex : x ≡ panel_size n) where
-  pub given_size : x ≡ false → 2 ≡ given_code spoilt n book bookCount sheet sheetCount i j
-  unfolding given_code
-  given_size e = sym (simp (sym ex ∙ e))
-
-  module _ (e : x ≡ true) where
-    pub given_spoilt : spoilt ≡ true → 3 ≡ given_code spoilt n book bookCount sheet sheetCount i j
-    unfolding given_code
-    given_spoilt f = sym (simp (sym ex ∙ e, f))
-
-    module _ (f : spoilt ≡ false) where
-      pub given_books : length book < bookCount → 3 ≡ given_code spoilt n book bookCount sheet sheetCount i j
-      unfolding given_code
-      given_books l = sym (simp (sym ex ∙ e, f, lt-ltb (length book) bookCount l))
-
-      module _ (lb : bookCount ≤ length book) where
-        pub given_sheets : length sheet < sheetCount → 3 ≡ given_code spoilt n book bookCount sheet sheetCount i j
-        unfolding given_code
-        given_sheets l = sym (simp (sym ex ∙ e, f, le-ltb (length book) bookCount lb, lt-ltb (length sheet) sheetCount l))
-
-        module _ (ls : sheetCount ≤ length sheet) (y : Bool) (ey : y ≡ good_book n (take bookCount book)) where
-          pub given_bad_book : y ≡ false → 4 ≡ given_code spoilt n book bookCount sheet sheetCount i j
-          unfolding given_code
-          given_bad_book g = sym (simp (sym ex ∙ e, f, le-ltb (length book) bookCount lb, le-ltb (length sheet) sheetCount ls, sym ey ∙ g))
-
-          module _ (g : y ≡ true) (z : Bool) (ez : z ≡ good_sheet n (take sheetCount sheet)) where
-            pub given_bad_sheet : z ≡ false → 5 ≡ given_code spoilt n book bookCount sheet sheetCount i j
-            unfolding given_code
-            given_bad_sheet h = sym (simp (sym ex ∙ e, f, le-ltb (length book) bookCount lb, le-ltb (length sheet) sheetCount ls, sym ey ∙ g, sym ez ∙ h))
-
-            module _ (h : z ≡ true) (p : ℕ) (ep : p ≡ 2 ^ n) where
-              pub given_state : p ≤ i → 6 ≡ given_code spoilt n book bookCount sheet sheetCount i j
-              unfolding given_code
-              given_state l =
-                  sym (simp (sym ex ∙ e, f, le-ltb (length book) bookCount lb, le-ltb (length sheet) sheetCount ls, sym ey ∙ g, sym ez ∙ h, ap (ltb i) (sym ep) ∙ le-ltb i p l))
-
-              module _ (li : i < p) where
-                pub given_next : p ≤ j → 6 ≡ given_code spoilt n book bookCount sheet sheetCount i j
-                unfolding given_code
-                given_next l =
-                    sym (simp (sym ex ∙ e, f, le-ltb (length book) bookCount lb, le-ltb (length sheet) sheetCount ls, sym ey ∙ g, sym ez ∙ h, ap (ltb i) (sym ep) ∙ lt-ltb i p li, ap (ltb j) (sym ep) ∙ le-ltb j p l))
-
-                pub given_ok : j < p → 0 ≡ given_code spoilt n book bookCount sheet sheetCount i j
-                unfolding given_code
-                given_ok l =
-                    sym (simp (sym ex ∙ e, f, le-ltb (length book) bookCount lb, le-ltb (length sheet) sheetCount ls, sym ey ∙ g, sym ez ∙ h, ap (ltb i) (sym ep) ∙ lt-ltb i p li, ap (ltb j) (sym ep) ∙ lt-ltb j p l))
+-- ---- take
 
 -- what is known of the slices once nothing refused
 pub record Lent (n : ℕ) (book : List ℕ) (bookCount : ℕ) (sheet : List ℕ) (sheetCount i j : ℕ) : Type 0 where

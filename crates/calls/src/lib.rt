@@ -2,11 +2,14 @@
 #![tactic(auto)]
 
 ghost use Rattle.std.specs.Prelude.{◌≡◌, false, take, ◌<◌};
+ghost use Rattle.answers.specs.Refusals.{refusal_code};
+ghost use Rattle.inner.specs.Inner.{answer_of};
 ghost use Rattle.calls.specs.Fresh.{fresh_code, Fresh};
 ghost use Rattle.calls.specs.Take.{given_code, entry_code, Taken};
 ghost use Rattle.calls.specs.Apply.{apply_code, apply_answer};
 
-use answers::{Answer, plain_answer};
+use answers::{Answer, Refusal, done_answer};
+use inner::Done;
 
 // What apply gives: the common numbers, and the state.
 #[derive(Clone, Copy)]
@@ -15,34 +18,37 @@ pub struct Applied {
     pub state: u32,
 }
 
-pub fn fresh_code(n: u32, room: usize) -> u32
-    ensures { result ≡ fresh_code n room }
+// A panel has one to ten relays, and there is room for the n rules of its fresh sheet.
+#[tactic(auto, using(std::proofs::lemmas::Bool::Decides::nat_tests), unfolding(crate::specs::Fresh::fresh_code))]
+pub fn check_fresh(n: u32, room: usize) -> Result<(), Refusal>
+    ensures { refusal_code result ≡ fresh_code n room }
 {
     if !panel::is_panel_size(n) {
-        return 2;
+        return Err(Refusal::PanelSize);
     }
     if room < n as usize {
-        return 9;
+        return Err(Refusal::SheetRoom);
     }
-    0
+    Ok(())
 }
 
 // Writes the fresh sheet: n rules with empty bodies.
 pub fn fresh(n: u32, sheet: &mut [u32]) -> Answer
     ensures { Fresh n sheet.old sheet.new result }
 {
-    let code = fresh_code(n, sheet.len());
-    if code != 0 {
-        return plain_answer(code, 0, 0, 0);
+    if let Err(why) = check_fresh(n, sheet.len()) {
+        // From here on a refusal is its number: `Fresh`, which `Contract` of the public calls names, has an answer with a code.
+        return Answer::refused(why, 0, 0, 0);
     }
     sheet::write_fresh(sheet, n);
     let count = n as usize;
     table::clear_from(sheet, count);
-    plain_answer(0, 0, 0, count)
+    done_answer(0, count, 0, 0)
 }
 
-// The refusals 2 to 6 of a take.
-fn given_code(
+// The size, the counts, the book, the sheet and the transition are sound: refused with 2 to 6.
+#[tactic(auto, using(std::proofs::lemmas::Bool::Decides::nat_tests), unfolding(crate::specs::Take::given_code, panel::specs::Masks::panel_size))]
+fn check_given(
     spoilt: bool,
     n: u32,
     book: &[u32],
@@ -51,39 +57,30 @@ fn given_code(
     sheet_count: usize,
     i: u32,
     j: u32,
-) -> u32
-    ensures { result ≡ given_code spoilt n book.now book_count sheet.now sheet_count i j }
+) -> Result<(), Refusal>
+    ensures { refusal_code result ≡ given_code spoilt n book.now book_count sheet.now sheet_count i j }
 {
     if !panel::is_panel_size(n) {
-        return 2;
+        return Err(Refusal::PanelSize);
     }
-    if spoilt {
-        return 3;
-    }
-    if book.len() < book_count {
-        return 3;
-    }
-    if sheet.len() < sheet_count {
-        return 3;
+    if spoilt || book.len() < book_count || sheet.len() < sheet_count {
+        return Err(Refusal::Counts);
     }
     if !book::is_good_book(n, &book[..book_count]) {
-        return 4;
+        return Err(Refusal::Book);
     }
     if !prime::is_good_sheet(n, &sheet[..sheet_count]) {
-        return 5;
+        return Err(Refusal::Sheet);
     }
     let states = panel::power(n);
-    if states <= i {
-        return 6;
+    if states <= i || states <= j {
+        return Err(Refusal::Word);
     }
-    if states <= j {
-        return 6;
-    }
-    0
+    Ok(())
 }
 
-// The refusals before the new sheet is known.
-fn entry_code(
+// All that can be refused before the new sheet is known.
+fn check_entry(
     spoilt: bool,
     n: u32,
     book: &[u32],
@@ -92,14 +89,32 @@ fn entry_code(
     sheet_count: usize,
     i: u32,
     j: u32,
-) -> u32
-    ensures { result ≡ entry_code spoilt n book.now book_count sheet.now sheet_count i j }
+) -> Result<(), Refusal>
+    ensures { refusal_code result ≡ entry_code spoilt n book.now book_count sheet.now sheet_count i j }
 {
-    let code = given_code(spoilt, n, book, book_count, sheet, sheet_count, i, j);
-    if code != 0 {
-        return code;
-    }
-    inner::booking_code(&book[..book_count], i, j, book.len())
+    check_given(spoilt, n, book, book_count, sheet, sheet_count, i, j)?;
+    inner::check_booking(&book[..book_count], i, j, book.len())
+}
+
+// Take, with the reason where it is refused; then both slices stay as they are.
+fn try_take(
+    spoilt: bool,
+    n: u32,
+    i: u32,
+    j: u32,
+    book: &mut [u32],
+    book_count: usize,
+    sheet: &mut [u32],
+    sheet_count: usize,
+) -> Result<Done, Refusal>
+    ensures { Taken spoilt n book.old book_count sheet.old sheet_count i j book.new sheet.new (answer_of book_count sheet_count result) }
+{
+    check_entry(spoilt, n, book, book_count, sheet, sheet_count, i, j)?;
+    let t = panel::transition_word(i, j);
+    let done = inner::take_in(n, t, book, book_count, sheet, sheet_count)?;
+    table::clear_from(book, done.book_count);
+    table::clear_from(sheet, done.sheet_count);
+    Ok(done)
 }
 
 // Take, refused with 3 also where `spoilt` says so.
@@ -115,20 +130,11 @@ pub fn take_unless(
 ) -> Answer
     ensures { Taken spoilt n book.old book_count sheet.old sheet_count i j book.new sheet.new result }
 {
-    let code = entry_code(spoilt, n, book, book_count, sheet, sheet_count, i, j);
-    if code != 0 {
-        return plain_answer(code, 0, book_count, sheet_count);
+    match try_take(spoilt, n, i, j, book, book_count, sheet, sheet_count) {
+        Ok(done) => done.answer(),
+        // From here on a refusal is its number: `Taken`, which `Contract` of the public calls names, has an answer with a code.
+        Err(why) => Answer::refused(why, 0, book_count, sheet_count),
     }
-    let t = panel::transition_word(i, j);
-    let answer = inner::take_in(n, t, book, book_count, sheet, sheet_count);
-    if answer.code != 0 {
-        return answer;
-    }
-    let next = answer.book_count;
-    table::clear_from(book, next);
-    let count = answer.sheet_count;
-    table::clear_from(sheet, count);
-    answer
 }
 
 // Takes one transition into book and sheet.
@@ -146,37 +152,39 @@ pub fn take(
     take_unless(false, n, i, j, book, book_count, sheet, sheet_count)
 }
 
-fn apply_code(n: u32, sheet: &[u32], sheet_count: usize, x: u32) -> u32
-    ensures { result ≡ apply_code n sheet.now sheet_count x }
+// The size, the count, the sheet and the state are sound: refused with 2, 3, 5 or 6.
+#[tactic(auto, using(std::proofs::lemmas::Bool::Decides::nat_tests), unfolding(crate::specs::Apply::apply_code, panel::specs::Masks::panel_size))]
+fn check_apply(n: u32, sheet: &[u32], sheet_count: usize, x: u32) -> Result<(), Refusal>
+    ensures { refusal_code result ≡ apply_code n sheet.now sheet_count x }
 {
     if !panel::is_panel_size(n) {
-        return 2;
+        return Err(Refusal::PanelSize);
     }
     if sheet.len() < sheet_count {
-        return 3;
+        return Err(Refusal::Counts);
     }
     if !prime::is_good_sheet(n, &sheet[..sheet_count]) {
-        return 5;
+        return Err(Refusal::Sheet);
     }
     if panel::power(n) <= x {
-        return 6;
+        return Err(Refusal::Word);
     }
-    0
+    Ok(())
 }
 
 // Applies the sheet to a state: a relay is on in the answer exactly if some rule of it covers the state.
 pub fn apply(n: u32, sheet: &[u32], sheet_count: usize, x: u32) -> Applied
     ensures { result ≡ apply_answer n sheet.now sheet_count x }
 {
-    let code = apply_code(n, sheet, sheet_count, x);
-    if code != 0 {
+    if let Err(why) = check_apply(n, sheet, sheet_count, x) {
+        // From here on a refusal is its number: `apply_answer`, which `Contract` of the public calls names, has an answer with a code.
         return Applied {
-            answer: plain_answer(code, 0, 0, 0),
+            answer: Answer::refused(why, 0, 0, 0),
             state: 0,
         };
     }
     Applied {
-        answer: plain_answer(0, 0, 0, 0),
+        answer: done_answer(0, 0, 0, 0),
         state: prime::apply_rules(n, &sheet[..sheet_count], x),
     }
 }

@@ -20,6 +20,8 @@ use Rattle.prime.proofs.Passes.{rule_small}
 use Rattle.panel.specs.Rules.{valid_rule}
 use Rattle.panel.proofs.Words.{rule_i}
 use Rattle.heirs.proofs.Counts.{counts_balance}
+use Rattle.std.specs.Prelude.{Result, Ok, Err}
+use Rattle.std.specs.Result.{IsErrAnd}
 use Rattle.book.specs.Books.{with_word}
 use Rattle.sheet.specs.Taking.{tally_of}
 use Rattle.sheet.specs.declared.Tally.{Tally}
@@ -109,3 +111,8 @@ module _ (n t : ℕ) (book : List ℕ) (bookCount : ℕ) (sheet : List ℕ) (she
 -- states and successors of a panel fit ten relays
 pub fits_ten : (n x : ℕ) → n ≤ 10 → x < 2 ^ n → x < 1024
 fits_ten n x l h = lt_of_lt_of_le h (pow_mono l)
+
+-- the exit of a `?` passes the refusal on
+pub passed_on : {A E : Type 0} {e : E} (r : Result A E) → IsErrAnd r (λ x. x ≡ e) → r ≡ Err e
+passed_on (Ok a) p = absurd p
+passed_on (Err x) p = ap (λ y. Err y) p

@@ -1,11 +1,23 @@
 -- Take where only 9 is left to refuse, as it stands between functions: what it needs, and what it does.
-use Rattle.std.specs.Prelude.{◌≡◌, true, false, List, ℕ, ◌≤◌, length, take}
+use Rattle.std.specs.Prelude.{◌≡◌, true, false, List, ℕ, Result, Ok, Err, ◌≤◌, length, take}
 use Rattle.table.specs.Surgery.{Holds}
 use Rattle.book.specs.Books.{states_up, told, with_word}
 use Rattle.prime.specs.Sheets.{good_sheet, take_sheet, struck_count, added_count}
 use Rattle.answers.specs.Answers.{plain, done, if_done}
 use Rattle.answers.specs.declared.Answer.{Answer}
+use Rattle.answers.specs.declared.Refusal.{Refusal}
+use Rattle.answers.specs.Refusals.{code_of}
+use Rattle.inner.specs.declared.Done.{Done}
 use Rattle.inner.specs.Booking.{inner_code}
+
+-- what a call answers that was done
+abbrev pub answer_done : Done → Answer
+answer_done d = done d.book_count d.sheet_count d.struck d.added
+
+-- what a call answers: what was done, or the refusal with the counts as they were
+abbrev pub answer_of : ℕ → ℕ → Result Done Refusal → Answer
+answer_of bookCount sheetCount (Ok d) = answer_done d
+answer_of bookCount sheetCount (Err why) = plain (code_of why) 0 bookCount sheetCount
 
 -- its answer
 unfoldable pub inner_answer : ℕ → ℕ → List ℕ → ℕ → List ℕ → ℕ → Answer

@@ -4,31 +4,40 @@
 ghost use Rattle.std.specs.Prelude.{◌≡◌, true, ◌<◌};
 ghost use Rattle.book.specs.Books.{states_up};
 ghost use Rattle.panel.specs.Transitions.{transition_word};
+ghost use Rattle.answers.specs.Refusals.{refusal_code};
 ghost use Rattle.inner.specs.Booking.{booking_code};
-ghost use Rattle.inner.specs.Inner.{Ready, Inner};
+ghost use Rattle.inner.specs.Inner.{answer_done, answer_of, Ready, Inner};
 
-use answers::{Answer, done_answer, plain_answer};
-use book::Found;
+use answers::{Answer, Refusal, done_answer};
 
-// The codes 1, 7 and 8: this transition is told already, another of its state is, the book is full.
-pub fn booking_code(book: &[u32], i: u32, j: u32, room: usize) -> u32
+// What a take leaves: how many words stand in both tables, and how many rules it struck and added.
+#[derive(Clone, Copy, PartialEq, Eq, Debug)]
+pub struct Done {
+    pub book_count: usize,
+    pub sheet_count: usize,
+    pub struck: usize,
+    pub added: usize,
+}
+
+impl Done {
+    // The answer of a call that did it.
+    pub fn answer(self) -> Answer
+        ensures { result ≡ answer_done self }
+    {
+        done_answer(self.book_count, self.sheet_count, self.struck, self.added)
+    }
+}
+
+// This transition is told already, another of its state is, or the book is full: then it may not come in.
+pub fn check_booking(book: &[u32], i: u32, j: u32, room: usize) -> Result<(), Refusal>
     requires { (i < 1024) × (j < 1024) × (states_up book.now ≡ true) }
-    ensures { result ≡ booking_code (transition_word i j) room book.now }
+    ensures { refusal_code result ≡ booking_code (transition_word i j) room book.now }
 {
-    let found = book::find_state(book, i);
-    match found {
-        Found::At(k) => {
-            if panel::next_of(book[k]) == j {
-                return 1;
-            }
-            7
-        }
-        Found::Gap(_) => {
-            if room <= book.len() {
-                return 8;
-            }
-            0
-        }
+    match book::find_state(book, i) {
+        Ok(k) if panel::next_of(book[k]) == j => Err(Refusal::Known),
+        Ok(_) => Err(Refusal::Contradiction),
+        Err(_) if room <= book.len() => Err(Refusal::BookRoom),
+        Err(_) => Ok(()),
     }
 }
 
@@ -40,17 +49,18 @@ pub fn take_in(
     book_count: usize,
     sheet: &mut [u32],
     sheet_count: usize,
-) -> Answer
+) -> Result<Done, Refusal>
     requires { Ready n t book.old book_count sheet.old sheet_count }
-    ensures { Inner n t book.old book_count sheet.old sheet_count book.new sheet.new result }
+    ensures { Inner n t book.old book_count sheet.old sheet_count book.new sheet.new (answer_of book_count sheet_count result) }
 {
     let change = sheet::count_changes(&sheet[..sheet_count], n, t);
-    let struck = change.struck;
-    let added = change.added;
-    if sheet.len() < sheet_count + added - struck {
-        return plain_answer(9, 0, book_count, sheet_count);
+    if sheet.len() < sheet_count + change.added - change.struck {
+        return Err(Refusal::SheetRoom);
     }
-    let next = book::put_word(book, book_count, t);
-    let count = sheet::take_rules(sheet, sheet_count, n, t);
-    done_answer(next, count, struck, added)
+    Ok(Done {
+        book_count: book::put_word(book, book_count, t),
+        sheet_count: sheet::take_rules(sheet, sheet_count, n, t),
+        struck: change.struck,
+        added: change.added,
+    })
 }

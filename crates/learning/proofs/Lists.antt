@@ -90,6 +90,12 @@ module _ (n : ℕ) (s : List ℕ) (c : ℕ) (ec : c ≡ fresh_code n (length s))
 
 -- ---- word after word
 
+-- after a refusal no word is learned, and it stands
+words_stand : (n br sr k : ℕ) (ts : List ℕ) (c p : ℕ) → learn_words n br sr k ts (refused c p) ≡ refused c p
+unfolding learn_words learn_step
+words_stand n br sr k [] c p = refl
+words_stand n br sr k (t ∷ ts) c p = words_stand n br sr (k + 1) ts c p
+
 -- the words before k have been learned
 pub record Learning (n : ℕ) (ts : List ℕ) (a : Answer) (book sheet : List ℕ) (k : ℕ) (so : Answer) (bz sz : List ℕ) : Type 0 where
   pub left : learn_words n (length book) (length sheet) k (drop k ts) (run_of so bz sz) ≡ learn_words n (length book) (length sheet) 0 ts (run_of a book sheet)
@@ -99,6 +105,11 @@ pub record Learning (n : ℕ) (ts : List ℕ) (a : Answer) (book sheet : List �
 
 pub learning_start : (n : ℕ) (ts : List ℕ) (a : Answer) (book sheet : List ℕ) → Fit n a book sheet → Learning n ts a book sheet 0 a book sheet
 learning_start n ts a book sheet f = record { left = refl; fit = f; book_room = refl; sheet_room = refl }
+
+pub through_stands : (n : ℕ) (ts : List ℕ) (a : Answer) (book sheet : List ℕ) → Fit n a book sheet → (a.code ≡ 0 → ⊥) → Through n ts a book sheet a book sheet
+through_stands n ts a book sheet f g =
+    let e = run_of_refused a book sheet g in
+    record { run = e ∙ sym (ap (learn_words n (length book) (length sheet) 0 ts) e ∙ words_stand n (length book) (length sheet) 0 ts a.code a.place); fit = f }
 
 module _ (n : ℕ) (ts : List ℕ) (a : Answer) (book sheet : List ℕ) (k : ℕ) (so : Answer) (bz sz : List ℕ) (q : Learning n ts a book sheet k so bz sz) where
   pub learning_more : k < length ts → (r : Answer) (by sy : List ℕ) → length by ≡ length bz → length sy ≡ length sz → WordLearned n k (get_or ts k 0) so bz sz r by sy → Learning n ts a book sheet (k + 1) r by sy
@@ -120,3 +131,15 @@ module _ (n : ℕ) (ts : List ℕ) (a : Answer) (book sheet : List ℕ) (k : ℕ
     run = sym (ap (λ (x : List ℕ). learn_words n (length book) (length sheet) k x (run_of so bz sz)) (drop_of_length-le ts {i = k} l)) ∙ q.left;
     fit = q.fit;
   }
+
+  -- a refusal stands for the words behind it
+  pub learning_stop : k < length ts → (r : Answer) (by sy : List ℕ) → WordLearned n k (get_or ts k 0) so bz sz r by sy → (r.code ≡ 0 → ⊥) → length by ≡ length bz → length sy ≡ length sz → Through n ts a book sheet r by sy
+  learning_stop l r by sy h f lb ls =
+      let on = learning_more l r by sy lb ls h in
+      record {
+        run = run_of_refused r by sy f
+            ∙ sym (words_stand n (length book) (length sheet) (k + 1) (drop (k + 1) ts) r.code r.place)
+            ∙ ap (learn_words n (length book) (length sheet) (k + 1) (drop (k + 1) ts)) (sym (run_of_refused r by sy f))
+            ∙ on.left;
+        fit = h.fit;
+      }

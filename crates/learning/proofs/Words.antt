@@ -106,21 +106,21 @@ module _ (n br sr k t : ℕ) (b s : List ℕ) (x y c : ℕ) (ec : c ≡ word_cod
 -- ---- the ways through `word_code`
 
 module _ (n t room : ℕ) (b : List ℕ) (v : Bool) (ev : v ≡ valid_transition n t) where
-  pub code_bad : not v ≡ true → 6 ≡ word_code n t room b
+  pub code_bad : v ≡ false → 6 ≡ word_code n t room b
   unfolding word_code
-  code_bad e = sym (ap (λ (x : Bool). refuse x 6 (booking_code t room b)) (ap not (sym ev) ∙ e))
+  code_bad e = sym (ap (λ (x : Bool). refuse (not x) 6 (booking_code t room b)) (sym ev ∙ e))
 
-  module _ (e : not v ≡ false) (i j : ℕ) (ei : i ≡ state t) (ej : j ≡ next t) where
+  module _ (e : v ≡ true) (i j : ℕ) (ei : i ≡ state t) (ej : j ≡ next t) where
     pub code_asks : n ≤ 10 → states_up b ≡ true → (i < 1024) × (j < 1024) × (states_up b ≡ true)
     code_asks small up =
-        let h = transition_e n t (sym ev ∙ not-false v e) in
+        let h = transition_e n t (sym ev ∙ e) in
         (rw ei (fits_ten n (state t) small h.state_lt), rw ej (fits_ten n (next t) small h.next_lt), up)
 
     pub code_booking : (c : ℕ) → c ≡ booking_code (transition_word i j) room b → c ≡ word_code n t room b
     unfolding word_code
     code_booking c ec =
         ec ∙ ap (λ (w : ℕ). booking_code w room b) (ap₂ transition_word ei ej ∙ transition_fields t)
-        ∙ sym (ap (λ (x : Bool). refuse x 6 (booking_code t room b)) (ap not (sym ev) ∙ e))
+        ∙ sym (ap (λ (x : Bool). refuse (not x) 6 (booking_code t room b)) (sym ev ∙ e))
 
 pub code_none : (n t room : ℕ) (b : List ℕ) → word_code n t room b ≡ 0 → (valid_transition n t ≡ true) × (booking_code t room b ≡ 0)
 unfolding word_code

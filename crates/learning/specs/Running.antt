@@ -1,10 +1,24 @@
 -- Where learning stands in the slices: what the answer so far and the words in use say.
-use Rattle.std.specs.Prelude.{◌≡◌, true, List, ℕ, ◌*◌, ◌≤◌, length, take}
+use Rattle.std.specs.Prelude.{◌≡◌, true, List, ℕ, Result, Ok, Err, ◌*◌, ◌≤◌, length, take, replicate}
 use Rattle.prime.specs.Sheets.{good_sheet}
 use Rattle.book.specs.Books.{good_book}
 use Rattle.answers.specs.Answers.{plain, done}
 use Rattle.answers.specs.declared.Answer.{Answer}
+use Rattle.answers.specs.Refusals.{code_of}
+use Rattle.inner.specs.Inner.{answer_done}
+use Rattle.inner.specs.declared.Done.{Done}
+use Rattle.learning.specs.declared.Refused.{Refused}
 use Rattle.learning.specs.Learn.{Run, run_if, going, word_code, learn_step, learn_words, learn_start, learn_end, run_answer, run_book, run_sheet}
+
+-- what is answered for it: what was done, or a refusal with its place alone
+abbrev pub answer_for : Result Done Refused → Answer
+answer_for (Ok d) = answer_done d
+answer_for (Err r) = plain (code_of r.why) r.place 0 0
+
+-- the words that a slice is left with: a refusal clears them all
+abbrev pub words_left : Result Done Refused → List ℕ → List ℕ
+words_left (Ok d) s = s
+words_left (Err r) s = replicate (length s) 0
 
 -- the run that an answer and the words in use stand for
 unfoldable pub run_of : Answer → List ℕ → List ℕ → Run

@@ -1,15 +1,17 @@
--- `learning::learn_start` meets its contract.
-use mathlib.Core.Path.{sym, ◌∙◌}
+-- A refusal has the place 0; else the fresh sheet stands, beside an empty book.
+use mathlib.Core.Path.{refl, sym}
+use Rattle.answers.proofs.Refusing.{code_not_none}
 use Rattle.calls.proofs.Ends.{fresh_none}
+use Rattle.inner.proofs.Inner.{passed_on}
 use Rattle.learning.proofs.Lists.{begun_refused, begun_done}
 use Rattle.learning.proofs.learn_start.Goals as goal
 
-pub returns-then-code-ne0 : goal.returns-then-code-ne0
-returns-then-code-ne0 c = begun_refused _ _ _ c.fresh_code-code.ensures _ c.if-code-ne0.true c.plain_answer.ensures
+pub returns-in_err-check_fresh : goal.returns-in_err-check_fresh
+returns-in_err-check_fresh c =
+    rw (passed_on _ c.from_residual.ensures.1) (begun_refused _ _ _ c.in_err-check_fresh.ensures _ (code_not_none _) refl)
 
 pub write_fresh-requires : goal.write_fresh-requires
-write_fresh-requires c = fresh_none _ _ (sym c.fresh_code-code.ensures ∙ c.if-code-ne0.false)
+write_fresh-requires c = fresh_none _ _ (sym c.in_ok-check_fresh.ensures)
 
 pub returns : goal.returns
-returns c =
-    begun_done _ _ _ c.fresh_code-code.ensures _ c.if-code-ne0.false _ c.write_fresh.ensures c.done_answer.ensures
+returns c = begun_done _ _ _ c.in_ok-check_fresh.ensures _ refl _ c.write_fresh.ensures refl

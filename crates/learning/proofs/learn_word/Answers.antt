@@ -1,33 +1,42 @@
--- `learning::learn_word` meets its contract.
-use mathlib.Core.Path.{sym}
-use lib.Seq.{length-take-le}
-use Rattle.learning.proofs.Words.{word_stands, word_books, word_asks, word_repeat, word_refused, word_next}
+-- A repeat leaves all as it was, a refusal has the word's place, and else the sums grow by what the take struck and added.
+use mathlib.Core.Path.{refl, ap}
+use native.Mathlib.Omega.{arith}
+use Rattle.answers.specs.declared.Refusal.TheVariants.{Known}
+use Rattle.answers.specs.Refusals.{code_of}
+use Rattle.answers.proofs.Refusing.{code_not_none, one_refusal}
+use Rattle.inner.specs.Inner.{answer_done}
+use Rattle.learning.proofs.Words.{word_asks, word_repeat, word_refused, word_next, next_ready, next_nine, next_struck, next_added, next_sums, next_done}
 use Rattle.learning.proofs.learn_word.Goals as goal
 
-pub returns-then-before-ne0 : goal.returns-then-before-ne0
-returns-then-before-ne0 c =
-    word_stands _ _ _ _ _ _ c.requires c.if-before-ne0.true
+pub check_word-requires : goal.check_word-requires
+check_word-requires c = word_asks _ c.args.k c.args.t (answer_done c.args.before) _ c.args.sheet.now refl c.requires
 
-pub slice_bounds-word_code-end : goal.slice_bounds-word_code-end
-slice_bounds-word_code-end c =
-    word_books _ c.args.k c.args.t _ _ _ c.if-before-ne0.false c.requires
+pub returns-in-Known : goal.returns-in-Known
+returns-in-Known c =
+    word_repeat _ _ _ (answer_done c.args.before) _ _ refl c.requires _ c.in-Err.ensures (ap code_of c.in-Known.is)
 
-pub slice_bounds-word_code-end-2 : goal.slice_bounds-word_code-end-2
-slice_bounds-word_code-end-2 c =
-    sym (length-take-le _ _ (word_books _ c.args.k c.args.t _ _ _ c.if-before-ne0.false c.requires))
+pub returns-in_default-why : goal.returns-in_default-why
+returns-in_default-why c =
+    word_refused _ _ _ (answer_done c.args.before) _ _ refl c.requires _ c.in-Err.ensures
+    (λ e. c.in_default-why.not-Known (one_refusal _ Known e)) (code_not_none _) _ refl
 
-pub word_code-code-requires : goal.word_code-code-requires
-word_code-code-requires c =
-    word_asks _ c.args.k c.args.t _ _ _ c.if-before-ne0.false c.requires
+pub take_in-requires : goal.take_in-requires
+take_in-requires c = next_ready _ c.args.k _ (answer_done c.args.before) _ _ (word_next _ c.args.k _ _ _ _ refl c.requires _ c.in_default.ensures refl)
 
-pub returns-then-code-eq1 : goal.returns-then-code-eq1
-returns-then-code-eq1 c =
-    word_repeat _ _ _ _ _ _ c.if-before-ne0.false c.requires _ c.word_code-code.ensures c.if-code-eq1.true
+pub overflow_add-result : goal.overflow_add-result
+overflow_add-result c =
+    let x = word_next _ c.args.k _ (answer_done c.args.before) _ _ refl c.requires _ c.in_default.ensures refl in
+    omega (arith, next_struck _ c.args.k _ _ _ _ x _ _ _ c.in-Ok.ensures refl, (next_sums _ c.args.k _ _ _ _ x _ _ _ c.in-Ok.ensures refl).0)
 
-pub returns-then-code-ne0 : goal.returns-then-code-ne0
-returns-then-code-ne0 c =
-    word_refused _ _ _ _ _ _ c.if-before-ne0.false c.requires _ c.word_code-code.ensures c.if-code-eq1.false c.if-code-ne0.true _ c.plain_answer.ensures
+pub overflow_add-result-in-Ok : goal.overflow_add-result-in-Ok
+overflow_add-result-in-Ok c =
+    let x = word_next _ c.args.k _ (answer_done c.args.before) _ _ refl c.requires _ c.in_default.ensures refl in
+    omega (arith, next_added _ c.args.k _ _ _ _ x _ _ _ c.in-Ok.ensures refl, (next_sums _ c.args.k _ _ _ _ x _ _ _ c.in-Ok.ensures refl).1)
 
-pub learn_next-requires : goal.learn_next-requires
-learn_next-requires c =
-    word_next _ c.args.k _ _ _ _ c.if-before-ne0.false c.requires _ c.word_code-code.ensures c.if-code-ne0.false
+pub returns-in-Ok : goal.returns-in-Ok
+returns-in-Ok c =
+    next_done _ _ _ (answer_done c.args.before) _ _ (word_next _ c.args.k _ _ _ _ refl c.requires _ c.in_default.ensures refl) _ _ _ c.in-Ok.ensures refl _ refl
+
+pub returns-in-Err-take_in : goal.returns-in-Err-take_in
+returns-in-Err-take_in c =
+    next_nine _ _ _ (answer_done c.args.before) _ _ (word_next _ c.args.k _ _ _ _ refl c.requires _ c.in_default.ensures refl) _ _ _ c.in-Err-take_in.ensures (code_not_none _) _ refl
