@@ -17,11 +17,7 @@ pub fn take_lent(
     ensures { TakesLent session.old book.old sheet.old i j session.new book.new sheet.new result }
 {
     let outcome = session.take(book, sheet, i, j);
-    session.n = outcome.session.n;
-    session.book_count = outcome.session.book_count;
-    session.sheet_count = outcome.session.sheet_count;
-    session.struck = outcome.session.struck;
-    session.added = outcome.session.added;
+    *session = outcome.session;
     outcome.answer
 }
 
@@ -35,10 +31,7 @@ pub fn lend_to_take(
 ) -> Outcome
     ensures { TakesLent session book.old sheet.old i j result.session book.new sheet.new result.answer }
 {
-    let mut kept = session;
-    let answer = take_lent(&mut kept, book, sheet, i, j);
-    Outcome {
-        answer,
-        session: kept,
-    }
+    let mut session = session;
+    let answer = take_lent(&mut session, book, sheet, i, j);
+    Outcome { answer, session }
 }

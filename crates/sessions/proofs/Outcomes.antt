@@ -16,9 +16,11 @@ use Rattle.sessions.proofs.Totals.{fit_struck, fit_added}
 use Rattle.sessions.proofs.Taking.{totals_fitted, few_struck, few_added}
 use Rattle.answers.proofs.Laws.{if_refused, if_done_lem}
 
--- ---- what a code picks
-
 -- ---- start
+
+-- the session that `default` gives
+pub zeros : (s : Session) → (s.n ≡ 0) × ((s.book_count ≡ 0) × ((s.sheet_count ≡ 0) × ((s.struck ≡ 0) × (s.added ≡ 0)))) → s ≡ no_session
+zeros s e = λ x. record { n = e.0 x; book_count = e.1.0 x; sheet_count = e.1.1.0 x; struck = e.1.1.1.0 x; added = e.1.1.1.1 x }
 
 module _ (n : ℕ) (sheet sheet' : List ℕ) (a : Answer) (h : Fresh n sheet sheet' a) where
   code_is : a.code ≡ fresh_code n (length sheet)
@@ -29,19 +31,19 @@ module _ (n : ℕ) (sheet sheet' : List ℕ) (a : Answer) (h : Fresh n sheet she
       picked zero = refl
       picked (suc c) = refl
 
-  pub start_refused : (a.code ≡ 0 → ⊥) → Starts n sheet sheet' (record { answer = a; session = no_session })
+  pub start_refused : (a.code ≡ 0 → ⊥) → (t : Session) → t ≡ no_session → Starts n sheet sheet' (record { answer = a; session = t })
   unfolding start_session
-  start_refused f = record {
+  start_refused f t et = record {
     answer = h.answer;
-    session = sym (if_refused (fresh_code n (length sheet)) (fresh_session n) no_session (λ e. f (code_is ∙ e)));
+    session = et ∙ sym (if_refused (fresh_code n (length sheet)) (fresh_session n) no_session (λ e. f (code_is ∙ e)));
     words = h.words;
   }
 
-  pub start_done : a.code ≡ 0 → Starts n sheet sheet' (record { answer = a; session = fresh_session n })
+  pub start_done : a.code ≡ 0 → (t : Session) → t ≡ fresh_session n → Starts n sheet sheet' (record { answer = a; session = t })
   unfolding start_session
-  start_done e = record {
+  start_done e t et = record {
     answer = h.answer;
-    session = sym (if_done_lem (fresh_code n (length sheet)) (fresh_session n) no_session (sym code_is ∙ e));
+    session = et ∙ sym (if_done_lem (fresh_code n (length sheet)) (fresh_session n) no_session (sym code_is ∙ e));
     words = h.words;
   }
 

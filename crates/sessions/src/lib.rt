@@ -6,7 +6,7 @@ ghost use Rattle.sessions.specs.Sessions.{totals_fit, session_after, Summable, S
 
 use answers::Answer;
 
-#[derive(Clone, Copy)]
+#[derive(Clone, Copy, PartialEq, Eq, Debug, Default)]
 pub struct Session {
     pub n: u32,
     pub book_count: usize,
@@ -22,12 +22,6 @@ pub struct Outcome {
     pub session: Session,
 }
 
-fn wide(x: u32) -> usize
-    ensures { result ≡ x }
-{
-    x as usize
-}
-
 impl Session {
     // A session on a fresh sheet; a refused start gives five zeros.
     pub fn start(n: u32, sheet: &mut [u32]) -> Outcome
@@ -35,57 +29,42 @@ impl Session {
     {
         let answer = calls::fresh(n, sheet);
         if answer.code != 0 {
-            let none = Session {
-                n: 0,
-                book_count: 0,
-                sheet_count: 0,
-                struck: 0,
-                added: 0,
-            };
             return Outcome {
                 answer,
-                session: none,
+                session: Session::default(),
             };
         }
         let session = Session {
             n,
-            book_count: 0,
             sheet_count: n as usize,
-            struck: 0,
-            added: 0,
+            ..Session::default()
         };
         Outcome { answer, session }
     }
 
     // Neither total is above 1,000,000,000, and n + added is sheet count + struck; no sum here can wrap.
+    #[tactic(auto, using(std::proofs::lemmas::Bool::Decides::nat_tests), unfolding(crate::specs::Sessions::totals_fit))]
     fn totals_fit(self) -> bool
         ensures { result ≡ totals_fit self }
     {
-        if 1000000000 < self.struck {
-            return false;
-        }
-        if 1000000000 < self.added {
-            return false;
-        }
-        let came = wide(self.n) + self.added;
-        if came < self.struck {
-            return false;
-        }
-        came - self.struck == self.sheet_count
+        self.struck <= 1000000000
+            && self.added <= 1000000000
+            && self.sheet_count.checked_add(self.struck) == Some(self.n as usize + self.added)
     }
 
     // After code 0 the new counts and the larger totals; after any other code the session as it was.
+    #[tactic(auto, unfolding(crate::specs::Sessions::session_after))]
     fn after(self, answer: Answer) -> Session
         requires { Summable self answer }
         ensures { result ≡ session_after self answer }
     {
         if answer.code == 0 {
             return Session {
-                n: self.n,
                 book_count: answer.book_count,
                 sheet_count: answer.sheet_count,
                 struck: self.struck + answer.struck,
                 added: self.added + answer.added,
+                ..self
             };
         }
         self
@@ -96,11 +75,19 @@ impl Session {
         ensures { Takes self book.old sheet.old i j book.new sheet.new result }
     {
         let spoilt = !self.totals_fit();
-        let n = self.n;
-        let book_count = self.book_count;
-        let sheet_count = self.sheet_count;
-        let answer = calls::take_unless(spoilt, n, i, j, book, book_count, sheet, sheet_count);
-        let session = self.after(answer);
-        Outcome { answer, session }
+        let answer = calls::take_unless(
+            spoilt,
+            self.n,
+            i,
+            j,
+            book,
+            self.book_count,
+            sheet,
+            self.sheet_count,
+        );
+        Outcome {
+            answer,
+            session: self.after(answer),
+        }
     }
 }
