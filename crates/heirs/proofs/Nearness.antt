@@ -1,6 +1,6 @@
 -- One pass over a part of a sheet finds the heirs of a hit rule: a candidate is barred by a rule that has its contact alone beyond the hit rule.
 use mathlib.Core.Path.{◌≡◌, refl, sym, ap, ap₂, ◌∙◌}
-use mathlib.Core.Bool.{Bool, true, false, not, ◌&&◌, ◌||◌, false≢true}
+use mathlib.Core.Bool.{Bool, true, false, not, ◌&&◌, ◌||◌, or-false, false≢true}
 use mathlib.Core.List.{List, [], ◌∷◌}
 use Prim.Native.Nat.{ℕ, ◌+◌, ◌-◌, ◌≤◌, ◌<◌}
 use native.Mathlib.Numerals.{add-one}
@@ -27,14 +27,10 @@ use Rattle.heirs.proofs.Take.{spared_miss}
 
 -- ---- the pass
 
-or_false : (x : Bool) → x ≡ (x || false)
-or_false true = refl
-or_false false = refl
-
 -- the bits seen at the end are those seen before and those of the part
 near_on : (p b seen : ℕ) (part : List ℕ) → on p (near_all b seen part) ≡ (on p seen || any (λ r. on p (near b r)) part)
 unfolding near_all
-near_on p b seen [] = or_false (on p seen)
+near_on p b seen [] = sym (or-false (on p seen))
 near_on p b seen (r ∷ part) =
     near_on p b (bit_or seen (near b r)) part
     ∙ ap (λ (x : Bool). x || any (λ y. on p (near b y)) part) (on_or p seen (near b r))
@@ -54,6 +50,9 @@ pass_more b seen k x part l ex e =
 pub pass_end : (b seen k : ℕ) (part : List ℕ) → length part ≤ k → near_all b seen (drop k part) ≡ near_all b 0 part → seen ≡ near_all b 0 part
 unfolding near_all
 pass_end b seen k part l e = sym (ap (near_all b seen) (drop_of_length-le part {i = k} l)) ∙ e
+
+-- what the pass rests on
+pub ruleset near_pass = (in_head, pass_more, pass_end)
 
 -- ---- what was seen tells the heirs
 

@@ -10,7 +10,7 @@ ghost use Rattle.heirs.specs.Heirs.{heir_mask, near_all};
 use panel::PanelSize;
 
 // The contacts that single rules of the part have beyond b, as bits of the word. All are rules of its head.
-#[tactic(auto, using(crate::proofs::Nearness::in_head, crate::proofs::Nearness::pass_more, crate::proofs::Nearness::pass_end))]
+#[tactic(auto, using(crate::proofs::Nearness::near_pass))]
 fn near_part(part: &[u32], b: u32) -> u32
     requires { all (λ r. eqb (head r) (head b)) part.now ≡ true }
     ensures { result ≡ near_all b 0 part.now }

@@ -54,6 +54,9 @@ pub rules_end : (n lo : ℕ) (s : List ℕ) (k : ℕ) → length s ≤ k → rul
 unfolding rules_left
 rules_end n lo s k l = rises_end (valid_rule n) (λ w. w) lo s k l
 
+-- what the pass of `are_rules` rests on
+pub ruleset rules_pass = (rules_start, rules_step, rules_end, rule_small)
+
 -- ---- a rule that a later one narrows
 
 -- where the head changes, no rule of the head follows
@@ -95,6 +98,9 @@ narrowed_step w rest k l e = rw (drop-cons rest k 0 l, add-one k) (simp (eq-eqb 
 pub narrowed_end : (w : ℕ) (rest : List ℕ) (k : ℕ) → length rest ≤ k → narrowed_left w rest k ≡ false
 unfolding narrowed_left
 narrowed_end w rest k l = any_end (λ r. narrows r w) rest k l
+
+-- what the pass of `is_narrowed` rests on, but for its start
+pub ruleset narrowed_pass = (narrowed_past, narrowed_step, narrowed_end)
 
 -- ---- no rule narrows another
 
@@ -166,9 +172,9 @@ any_push : (f : ℕ → Bool) (s : List ℕ) (w : ℕ) → any f (s ++ w ∷ [])
 any_push f [] w = or-false (f w)
 any_push f (x ∷ s) w = ap (λ (z : Bool). f x || z) (any_push f s w) ∙ sym (or_assoc (f x) (any f s) (f w))
 
-pub apply_none : (n : ℕ) (x : ℕ) → apply_sheet n [] x ≡ 0
+pub apply_empty : (n : ℕ) (x : ℕ) → apply_sheet n [] x ≡ 0
 unfolding pulls_in
-apply_none n x = same_bits n (apply_sheet n [] x) 0 (apply_lt n [] x) (pow_pos n) (λ h l. apply_on n [] x h l ∙ sym (off_zero h))
+apply_empty n x = same_bits n (apply_sheet n [] x) 0 (apply_lt n [] x) (pow_pos n) (λ h l. apply_on n [] x h l ∙ sym (off_zero h))
 
 -- one rule more, that does not cover the state
 pub apply_past : (n : ℕ) (s : List ℕ) (k x : ℕ) → k < length s → covers (get_or s k 0) x ≡ false → apply_sheet n (take (k + 1) s) x ≡ apply_sheet n (take k s) x
@@ -195,3 +201,6 @@ apply_pull n s k x v l c =
   where
     w : ℕ
     w = get_or s k 0
+
+-- what the pass of `apply_rules` rests on
+pub ruleset apply_pass = (apply_empty, apply_past, apply_pull, rule_head)

@@ -9,7 +9,7 @@ ghost use Rattle.prime.specs.Sheets.{good_sheet, antichain, apply_sheet};
 use panel::PanelSize;
 
 // The words are rules of a panel with n relays, strictly increasing.
-#[tactic(auto, using(crate::proofs::Passes::rules_start, crate::proofs::Passes::rules_step, crate::proofs::Passes::rules_end, crate::proofs::Passes::rule_small))]
+#[tactic(auto, using(crate::proofs::Passes::rules_pass))]
 fn are_rules(n: PanelSize, sheet: &[u32]) -> bool
     ensures { result ≡ (all (valid_rule n) sheet.now && increasing sheet.now) }
 {
@@ -24,7 +24,7 @@ fn are_rules(n: PanelSize, sheet: &[u32]) -> bool
 }
 
 // Some rule of the rest narrows w; only the stretch of one head need be looked at, since the words rise.
-#[tactic(auto, using(crate::proofs::Passes::narrowed_start, crate::proofs::Passes::narrowed_past, crate::proofs::Passes::narrowed_step, crate::proofs::Passes::narrowed_end))]
+#[tactic(auto, using(crate::proofs::Passes::narrowed_pass))]
 fn is_narrowed(w: u32, rest: &[u32]) -> bool
     requires { increasing (w ∷ rest.now) ≡ true }
     ensures { result ≡ any (λ r. narrows r w) rest.now }
@@ -77,7 +77,7 @@ pub fn stretch(s: &[u32], h: u32) -> &[u32]
 }
 
 // The state in which exactly the heads are on of which some rule covers x.
-#[tactic(auto, using(crate::proofs::Passes::apply_none, crate::proofs::Passes::apply_past, crate::proofs::Passes::apply_pull, crate::proofs::Passes::rule_head))]
+#[tactic(auto, using(crate::proofs::Passes::apply_pass))]
 pub fn apply_rules(n: PanelSize, sheet: &[u32], x: u32) -> u32
     requires { all (valid_rule n) sheet.now ≡ true }
     ensures { result ≡ apply_sheet n sheet.now x }
