@@ -42,10 +42,6 @@ module _ (s : List ℕ) (have : ℕ) (x m : Bool) (ex : x ≡ m) where
       subst (λ (b : Bool). Holds z (have + 1) (length s) (cond b (insert d (take have s)) (take have s))) (sym (sym ex ∙ e))
       (subst (λ (y : ℕ). Holds z (have + 1) (length s) (insert y (take have s))) ec (inserted_table s z have c l ez))
 
-  pub one_none : x ≡ false → (d : ℕ) → have ≤ length s → Holds s have (length s) (cond m (insert d (take have s)) (take have s))
-  one_none e d l =
-      subst (λ (b : Bool). Holds s have (length s) (cond b (insert d (take have s)) (take have s))) (sym (sym ex ∙ e)) (holds_same s have l)
-
 -- ---- one relay after the other
 
 picked_suc : (v mask b i : ℕ) (tab : List ℕ)

@@ -79,10 +79,6 @@ pub record Visiting (all : Bool) (n t room : ℕ) (goal cur : List ℕ) (have i 
   pub will : swept all n t i (take have cur) ≡ goal
 
 module _ (all : Bool) (n t : ℕ) where
-  pub visiting_start : (cur : List ℕ) (have : ℕ) → have ≤ length cur → Sweepable all n t (length cur) have (take have cur)
-      → Visiting all n t (length cur) (swept all n t have (take have cur)) cur have have
-  visiting_start cur have l c = record { fits = l; same = refl; can = c; will = refl }
-
   module _ (room : ℕ) (goal cur : List ℕ) (have i : ℕ) (k : Visiting all n t room goal cur have i) (l : 0 < i) where
     last : i ≡ suc (i - 1)
     last = omega arith
@@ -133,7 +129,7 @@ module _ (n : ℕ) (small : n ≤ 10) (t : ℕ) (s : List ℕ) (good : good_shee
       go (inl k) = g.valid r k
       go (inr w) = (take_good n small s t).valid r (heir_i n small s g t r w)
 
-  sweeping_start : (i : ℕ) → i ≡ length s → i ≤ room → Sweeping n t s room false i s
+  pub sweeping_start : (i : ℕ) → i ≡ length s → i ≤ room → Sweeping n t s room false i s
   sweeping_start i e l = record {
     fits = omega arith;
     below = omega arith;
@@ -143,8 +139,9 @@ module _ (n : ℕ) (small : n ≤ 10) (t : ℕ) (s : List ℕ) (good : good_shee
     behind = λ r m. absurd (none_behind s i r (omega arith) m);
   }
 
-  sweeping_next : (tab : List ℕ) → Sweeping n t s room false 0 tab → Sweeping n t s room true (length tab) tab
-  sweeping_next tab k = record {
+  -- the first sweep is over, and the second begins
+  pub sweeping_phase : (tab : List ℕ) → Sweeping n t s room false 0 tab → Sweeping n t s room true (length tab) tab
+  sweeping_phase tab k = record {
     fits = k.fits;
     below = le_refl (length tab);
     progress = k.progress;
@@ -153,7 +150,7 @@ module _ (n : ℕ) (small : n ≤ 10) (t : ℕ) (s : List ℕ) (good : good_shee
     behind = λ r m. absurd (none_behind tab (length tab) r (le_refl (length tab)) m);
   }
 
-  sweeping_end : (tab : List ℕ) → Sweeping n t s room true 0 tab → tab ≡ take_sheet n s t
+  pub sweeping_end : (tab : List ℕ) → Sweeping n t s room true 0 tab → tab ≡ take_sheet n s t
   sweeping_end tab k = progress_end n small s g t tab k.progress (λ r m. now r m (either (spared t r)))
     where
       now : (r : ℕ) → Mem r tab → (spared t r ≡ true) ⊎ (spared t r ≡ true → ⊥) → spared t r ≡ true
@@ -238,7 +235,7 @@ module _ (n : ℕ) (small : n ≤ 10) (t : ℕ) (s : List ℕ) (good : good_shee
           ∙ ap (λ (x : ℕ). drop x (take i tab ++ insert_all (heirs_of n keep t b) (drop (suc i) tab))) (sym front)
           ∙ drop-append_seam (take i tab) (insert_all (heirs_of n keep t b) (drop (suc i) tab))
 
-    sweeping_can : (cur : List ℕ) (have : ℕ) → Holds cur have room tab → Visitable all n t cur have i
+    pub sweeping_can : (cur : List ℕ) (have : ℕ) → Holds cur have room tab → Visitable all n t cur have i
     sweeping_can cur have h = record {
       size = small;
       inside = at;
@@ -293,7 +290,7 @@ module _ (n : ℕ) (small : n ≤ 10) (t : ℕ) (s : List ℕ) (good : good_shee
         settled x (inl m) = record { or_fertile = λ d. absurd (d (heir_spared n small s g t x (heir_b n small s g t tab k.progress b b_in f x m))) }
         settled x (inr m) = k.behind x m
 
-    sweeping_visit : Sweeping n t s room all i (visited all n t b tab)
+    pub sweeping_visit : Sweeping n t s room all i (visited all n t b tab)
     unfolding visited
     sweeping_visit = go (stays all n t b tab) refl
       where
@@ -326,7 +323,7 @@ module _ (n : ℕ) (small : n ≤ 10) (t : ℕ) (s : List ℕ) (good : good_shee
       second =
           let q : length (take have z) ≡ have = length-take-le have z h.fits in
           subst (λ (i : ℕ). Sweeping n t s room true i (take have z)) q
-          (rw h.is (sweeping_next (swept false n t count s) (sweeping_all false count s (sweeping_start count e l))))
+          (rw h.is (sweeping_phase (swept false n t count s) (sweeping_all false count s (sweeping_start count e l))))
 
       pub second_can : Sweepable true n t (length z) have (take have z)
       second_can = rw h.same (sweepable true have (take have z) second)

@@ -25,9 +25,6 @@ use Rattle.sheet.specs.Taking.{tally_of, on_count, hits, Tallying}
 use Rattle.sheet.specs.declared.Tally.{Tally}
 use Rattle.sheet.proofs.Stretch.{picked_count}
 
-pub tally_start : (n t : ℕ) (s : List ℕ) → Tallying n t s 0 0 0
-tally_start n t s = record { inside = omega arith; few = omega arith; not_many = omega arith; struck_left = omega arith; added_left = omega arith }
-
 module _ (n t : ℕ) (s : List ℕ) (small : n ≤ 10) (good : good_sheet n s ≡ true) where
   g : Good n s
   g = good_e n s good

@@ -68,6 +68,9 @@ pub fn count_changes(sheet: &[u32], n: PanelSize, t: u32) -> Tally
     so
 }
 
+// From here on `have` words of the sheet are the table. The two stay apart: a struct of both would hold a `&mut`, and each contract would have
+// to say besides that it is still this slice.
+
 // The candidate of b on the relay v goes into its place, if the mask has v.
 fn plant_one(sheet: &mut [u32], have: usize, v: u32, i: u32, b: u32, mask: u32) -> usize
     requires { (v < 10) × (b < 16777216) × (have ≤ length sheet.old) × (increasing (take have sheet.old) ≡ true) × (length (cond (on v mask) (insert (candidate b v i) (take have sheet.old)) (take have sheet.old)) ≤ length sheet.old) }

@@ -1,5 +1,5 @@
 -- `sheet::plant_one` meets its contract.
-use Rattle.sheet.proofs.Planting.{one_room, one_done, one_none}
+use Rattle.sheet.proofs.Planting.{one_room, one_done}
 use Rattle.sheet.proofs.plant_one.Goals as goal
 
 pub insert_sorted-requires : goal.insert_sorted-requires
@@ -9,6 +9,3 @@ insert_sorted-requires c =
 pub returns-then-is_on : goal.returns-then-is_on
 returns-then-is_on c =
     one_done _ _ _ _ c.is_on.ensures c.if-is_on.true _ _ _ c.candidate_on-c.ensures (one_room _ _ _ _ c.is_on.ensures c.if-is_on.true _ c.requires.2 c.requires.4) c.insert_sorted.ensures
-
-pub returns : goal.returns
-returns c = one_none _ _ _ _ c.is_on.ensures c.if-is_on.false _ c.requires.2

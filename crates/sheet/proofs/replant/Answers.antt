@@ -13,15 +13,9 @@ pub returns-in_default : goal.returns-in_default
 returns-in_default c =
     barren_done _ _ _ _ _ _ _ c.in_default.ensures (removed_table _ _ _ _ c.requires.1 c.requires.2 c.requires.3 c.remove_at.ensures)
 
-pub candidate_on-c-requires : goal.candidate_on-c-requires
-candidate_on-c-requires c = (omega (arith, c.in-Some.ensures.0), c.requires.0)
-
 pub replace_at-requires : goal.replace_at-requires
 replace_at-requires c =
     (c.requires.1, c.requires.2, c.requires.3, subst (λ (k : ℕ). get_or c.args.sheet.now c.args.at 0 < k) (sym c.candidate_on-c.ensures) (candidate_above _ _ _))
-
-pub power-requires : goal.power-requires
-power-requires c = omega (arith, c.in-Some.ensures.0)
 
 pub overflow_sub-mask : goal.overflow_sub-mask
 overflow_sub-mask c =

@@ -1,9 +1,6 @@
 -- `sheet::sweep` meets its contract.
-use Rattle.sheet.proofs.Sweeps.{visiting_start, visiting_can, visiting_more, visiting_end}
+use Rattle.sheet.proofs.Sweeps.{visiting_can, visiting_more, visiting_end}
 use Rattle.sheet.proofs.sweep.Goals as goal
-
-pub loop-at-init : goal.loop-at-init
-loop-at-init c = visiting_start _ _ _ _ _ c.requires.0 c.requires.1
 
 pub visit-have-requires : goal.visit-have-requires
 visit-have-requires c = visiting_can _ _ _ _ _ _ _ _ c.loop-at.invariant c.loop-at-test.true

@@ -13,10 +13,6 @@ pub heirs_of-requires : goal.heirs_of-requires
 heirs_of-requires c =
     ((good_e _ _ c.requires.0).sorted, tally_rule c.args.n c.args.t c.args.sheet.now (omega arith) c.requires.0 _ c.requires.1, sym c.is_spared.ensures ∙ c.if-is_spared.false)
 
-pub overflow_add-result : goal.overflow_add-result
-overflow_add-result c =
-    omega (arith, tally_short c.args.n c.args.t c.args.sheet.now (omega arith) c.requires.0, c.requires.2.few)
-
 pub overflow_add-result-2 : goal.overflow_add-result-2
 overflow_add-result-2 c =
     omega (arith, tally_short c.args.n c.args.t c.args.sheet.now (omega arith) c.requires.0, c.requires.2.not_many, c.count_on-c.ensures.1)

@@ -1,19 +1,11 @@
 -- `sheet::visit` meets its contract.
-use mathlib.Core.Path.{refl, sym, ◌∙◌}
-use lib.Seq.{length-take-le}
+use mathlib.Core.Path.{refl}
 use Rattle.prime.proofs.Passes.{rule_small}
 use Rattle.sheet.proofs.Planting.{visit_spared, visit_later, visit_can, visit_done}
 use Rattle.sheet.proofs.visit.Goals as goal
 
 pub returns-then-is_spared : goal.returns-then-is_spared
 returns-then-is_spared c = visit_spared _ _ _ _ _ _ _ c.is_spared.ensures c.if-is_spared.true c.requires.fits
-
-pub slice_bounds-heirs_of-end-2 : goal.slice_bounds-heirs_of-end-2
-slice_bounds-heirs_of-end-2 c = sym (length-take-le _ _ c.requires.fits)
-
-pub heirs_of-mask-requires : goal.heirs_of-mask-requires
-heirs_of-mask-requires c =
-    (c.requires.sorted, c.requires.rule, sym c.is_spared.ensures ∙ c.if-is_spared.false)
 
 pub returns-then-not-goes : goal.returns-then-not-goes
 returns-then-not-goes c =
