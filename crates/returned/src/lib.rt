@@ -6,6 +6,7 @@ ghost use Rattle.reading.specs.Reading.{answer_of, list_of};
 ghost use Rattle.returned.specs.Returned.{ReadsSheet};
 
 use answers::Refusal;
+use panel::PanelSize;
 use reading::ReadAnswer;
 
 // Reads a sheet as far as its words in order: refused with 11, 8 or 5, in this order. `reading::finish` makes the answer of it.
@@ -16,7 +17,7 @@ fn read_rules(text: &[u8], words: &mut [u32]) -> Result<(u32, usize), (Refusal, 
     let (n, count) = reading::read_words(judging::sheet_layout(), text, words)?;
     let rules = &mut words[..count];
     sorting::order(rules);
-    if !prime::is_good_sheet(n, rules) {
+    if !prime::is_good_sheet(PanelSize::of(n), rules) {
         return Err((Refusal::Sheet, 0));
     }
     Ok((n, count))

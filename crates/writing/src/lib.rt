@@ -11,6 +11,7 @@ ghost use Rattle.writing.specs.Writing.{Room, Wrote, count_length, names_length,
 
 use answers::{Answer, Refusal};
 use fields::Fields;
+use panel::PanelSize;
 
 // The common numbers, and the length of the text.
 #[derive(Clone, Copy)]
@@ -259,12 +260,12 @@ fn count_length(counted: bool, count: usize) -> usize
 
 // The name lines and `count` rows are not longer than the room.
 #[tactic(auto, using(crate::proofs::WriteLaws::rows_alone, crate::proofs::WriteLaws::lines_not, crate::proofs::WriteLaws::rows_behind))]
-fn rest_fits(n: u32, names: &[u8], count: usize, room: usize) -> bool
-    requires { (n ≤ 10) × (room < 2 ^ 63) }
+fn rest_fits(n: PanelSize, names: &[u8], count: usize, room: usize) -> bool
+    requires { room < 2 ^ 63 }
     ensures { result ≡ leb (names_length (take n (fields_in names.now)) + count * (2 * n + 2)) room }
 {
-    let row = 2 * n as usize + 2;
-    let spaced = spaced_length(names, n);
+    let row = 2 * n.relays() as usize + 2;
+    let spaced = spaced_length(names, n.relays());
     if spaced == 0 {
         return count <= room / row;
     }
@@ -280,11 +281,11 @@ fn rest_fits(n: u32, names: &[u8], count: usize, room: usize) -> bool
 
 // The text of a table of `count` rows is not longer than the room.
 #[tactic(auto, using(crate::proofs::WriteLaws::fits_not, crate::proofs::WriteLaws::fits_rest))]
-fn text_fits(t: Table, word: &[u8], n: u32, names: &[u8], count: usize, room: usize) -> bool
-    requires { (n ≤ 10) × (count < 2 ^ 63) × (length word.now ≤ 2) × (room < 2 ^ 63) }
+fn text_fits(t: Table, word: &[u8], n: PanelSize, names: &[u8], count: usize, room: usize) -> bool
+    requires { (count < 2 ^ 63) × (length word.now ≤ 2) × (room < 2 ^ 63) }
     ensures { result ≡ leb (text_length t word.now n (take n (fields_in names.now)) count) room }
 {
-    let head = 18 + word.len() + 2 * digits(n as usize) + count_length(t.counted, count);
+    let head = 18 + word.len() + 2 * digits(n.relays() as usize) + count_length(t.counted, count);
     if room < head {
         return false;
     }
@@ -311,9 +312,7 @@ fn writable<'a>(
     ensures code { refusal_code result ≡ write_code n (take n (fields_in names.now)) sheet.now count room }
     ensures rules { IfOk result (λ rules. rules.now ≡ take count sheet.now) }
 {
-    if !panel::is_panel_size(n) {
-        return Err(Refusal::PanelSize);
-    }
+    let n = PanelSize::new(n).ok_or(Refusal::PanelSize)?;
     if sheet.len() < count {
         return Err(Refusal::Counts);
     }

@@ -12,16 +12,16 @@ returns-in_err-n-clause-read c =
     read_err (λ list r. ReadsSheet c.args.text.now c.args.words.now list r) c.read_words.new.list w _ c.from_residual.ensures.1
     (rows_refused _ _ _ _ (rw c.sheet_layout.ensures at c.in_err-n.ensures.read) (code_not_none w.0))
 
-pub is_good_sheet-requires : goal.is_good_sheet-requires
-is_good_sheet-requires c =
+pub of-requires : goal.of-requires
+of-requires c =
     size_few _ _ _ _ _ c.in_ok-n.ensures.fits (rows_fit _ _ _ _ (rw c.sheet_layout.ensures at c.in_ok-n.ensures.read) refl)
 
 pub returns-then-not-is_good_sheet-clause-read : goal.returns-then-not-is_good_sheet-clause-read
 returns-then-not-is_good_sheet-clause-read c =
     read_no_good _ _ _ _ _ c.in_ok-n.ensures.fits (rows_fit _ _ _ _ (rw c.sheet_layout.ensures at c.in_ok-n.ensures.read) refl)
-    _ c.order.ensures _ c.is_good_sheet.ensures c.if-not-is_good_sheet.true
+    _ c.order.ensures _ (rw c.of.ensures at c.is_good_sheet.ensures) c.if-not-is_good_sheet.true
 
 pub returns-clause-read : goal.returns-clause-read
 returns-clause-read c =
     read_good _ _ _ _ _ c.in_ok-n.ensures.fits (rows_fit _ _ _ _ (rw c.sheet_layout.ensures at c.in_ok-n.ensures.read) refl)
-    _ c.order.ensures _ c.is_good_sheet.ensures c.if-not-is_good_sheet.false
+    _ c.order.ensures _ (rw c.of.ensures at c.is_good_sheet.ensures) c.if-not-is_good_sheet.false
