@@ -1,7 +1,7 @@
 -- Laws of one line: what each kind of line is when its number is kept, and what `scan_line` does.
 use Prim.Native.Nat.{ℕ, ◌+◌, ◌-◌, ◌≤◌, ◌<◌}
 use mathlib.Core.Path.{◌≡◌, refl, ◌∙◌, ap}
-use mathlib.Core.List.{List, [], ◌∷◌}
+use mathlib.Core.List.{List, [], ◌∷◌, map}
 use mathlib.Core.Bool.{Bool, true, false, cond}
 use mathlib.Core.Logic.{◌⊎◌, inl, inr, ⊎_elim}
 use native.Mathlib.Omega.{arith}
@@ -11,11 +11,11 @@ use lib.Seq.{take-nil, drop-cons}
 use native.Mathlib.Numerals.{add-one}
 use borrow.Author.Tests.{eq-eqb, ne_eqb, le-leb, lt-leb}
 use denote.Ref.{Bor}
-use Rattle.std.specs.Prelude.{Option, Some, None, nat_eq}
+use Rattle.std.specs.Prelude.{Option, Some, None, unwrap_or, option_map, nat_eq}
 use Rattle.std.specs.List.{slice_get}
 use Rattle.std.specs.Cmp.Lexicographic.{pointwise}
 use Rattle.fields.proofs.ByteLaws.{same_is_eq}
-use Rattle.fields.specs.Bytes.{mark_of, same}
+use Rattle.fields.specs.Bytes.{mark_of}
 use Rattle.fields.specs.Fields.{fields_in, only_of, Spans}
 use Rattle.fields.specs.Values.{cube_of}
 use Rattle.fields.specs.declared.Span.{Span}
@@ -23,8 +23,7 @@ use Rattle.fields.specs.declared.Columns.{Columns}
 use Rattle.fields.specs.declared.Mark.{Mark}
 use Rattle.fields.specs.declared.Mark.TheVariants.{Digit, Dash, Space, Hash, Dot, Feed, Other}
 use Rattle.fields.proofs.FieldLaws.{end_or, span_none, span_some}
-use Rattle.lines.specs.declared.Key.{Key}
-use Rattle.lines.specs.Lines.{typed_of, row_of, row_line, start_line, class_of, of_fields, keep_line}
+use Rattle.lines.specs.Lines.{meaning, row_of, row_line, start_line, class_of, of_fields, keep_line}
 use Rattle.lines.specs.declared.Kind.TheVariants.{Recording, Sheet}
 use Rattle.lines.specs.declared.Line.{Line}
 use Rattle.lines.specs.declared.Line.TheVariants.{Empty, Typed, Fault}
@@ -70,23 +69,23 @@ class_of_line s r h =
     (λ l. rw (span_some s 0 r h l))
     (end_or r.from (length s) h.start_in)
 
--- the first of some words that w is
-abbrev pub key_in : List (Bor (List ℕ) × Key) → List ℕ → Option Key
-key_in [] w = None
-key_in (e ∷ es) w = cond (same w e.0.now) (Some e.1) (key_in es w)
+-- a table's words from the entry x on: w is x's word, or it is looked for behind x
+abbrev entries : {T : Type 0} → List (Bor (List ℕ) × T) → List (List ℕ × T)
+entries es = map (λ e. (e.0.now, e.1)) es
 
-module _ (es : List (Bor (List ℕ) × Key)) (w : List ℕ) (i : ℕ) (d : Bor (List ℕ) × Key) (k : Option Key) (h : i < length es) (left : key_in (drop i es) w ≡ k) where
-  pub key_hit : true ≡ pointwise nat_eq w (get_or es i d).0.now → Some (get_or es i d).1 ≡ k
-  key_hit e = rw (drop-cons es i d h, same_is_eq w (get_or es i d).0.now, ← e) at left
+module _ {T : Type 0} (es : List (Bor (List ℕ) × T)) (w : List ℕ) (i : ℕ) (x : Bor (List ℕ) × T) (k : Option T)
+    (h : i < length es) (q : x ≡ get_or es i x) (left : meaning (entries (drop i es)) w ≡ k) where
+  pub word_hit : true ≡ pointwise nat_eq w x.0.now → Some x.1 ≡ k
+  word_hit e = rw (drop-cons es i x h, ← q, same_is_eq w x.0.now, ← e) at left
 
-  pub key_miss : false ≡ pointwise nat_eq w (get_or es i d).0.now → key_in (drop (i + 1) es) w ≡ k
-  key_miss e = rw add-one (rw (drop-cons es i d h, same_is_eq w (get_or es i d).0.now, ← e) at left)
+  pub word_miss : false ≡ pointwise nat_eq w x.0.now → meaning (entries (drop (i + 1) es)) w ≡ k
+  word_miss e = rw add-one (rw (drop-cons es i x h, ← q, same_is_eq w x.0.now, ← e) at left)
 
 -- what a text is, by the tests of its two words
-pub typed_by : (v p q : List ℕ) (t u : Bool) → p ≡ 102 ∷ 114 ∷ [] → q ≡ 102 ∷ [] → t ≡ pointwise nat_eq v p → u ≡ pointwise nat_eq v q
-    → cond t (Typed Recording) (cond u (Typed Sheet) Fault) ≡ typed_of v
-unfolding typed_of
-typed_by v p q t u hp hq e f = rw (← hp, ← hq, same_is_eq v p, same_is_eq v q, ← e, ← f)
+pub typed_by : (v : List ℕ) (t u : Bool) → unwrap_or (option_map Typed (cond t (Some Recording) (cond u (Some Sheet) None))) Fault ≡ cond t (Typed Recording) (cond u (Typed Sheet) Fault)
+typed_by v true u = refl
+typed_by v false true = refl
+typed_by v false false = refl
 
 -- a row of two fields of one width, and two fields that are none
 pub row_apart : (w v : List ℕ) → (length w ≡ length v → ⊥) → Fault ≡ row_line w v

@@ -18,6 +18,11 @@ use Rattle.lines.specs.declared.View.TheVariants.{Cells, EndMark, Aside}
 use Rattle.lines.specs.declared.Line.{Line}
 use Rattle.lines.specs.declared.Line.TheVariants.{Empty, Sized, Named, Typed, Rows, Row, End, Fault}
 
+-- what a word stands for in a table of words
+abbrev pub meaning : {T : Type 0} → List (List ℕ × T) → List ℕ → Option T
+meaning [] w = None
+meaning (e ∷ es) w = cond (same w e.0) (Some e.1) (meaning es w)
+
 -- `.type`, `.p`, `.e` or `.end`
 unfoldable pub other_key : List ℕ → Option Key
 other_key w =

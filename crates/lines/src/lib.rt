@@ -1,9 +1,9 @@
 // One line of a text: what it says.
 #![tactic(auto)]
 
-ghost use Rattle.std.specs.Prelude.{◌≡◌, Some, unwrap_or, option_map};
+ghost use Rattle.std.specs.Prelude.{◌≡◌, Some, map, unwrap_or, option_map};
 ghost use Rattle.fields.specs.Fields.{fields_in};
-ghost use Rattle.lines.specs.Lines.{key_of, row_of, row_line, columns_of, typed_of, key_line, class_of, line_of, keep_line, view_of};
+ghost use Rattle.lines.specs.Lines.{meaning, key_of, row_of, row_line, columns_of, typed_of, key_line, class_of, line_of, keep_line, view_of};
 
 mod texts;
 
@@ -76,15 +76,25 @@ const KEYS: [(&[u8], Key); 8] = [
     (b".end", Key::Stop),
 ];
 
-fn key_of(w: &[u8]) -> Option<Key>
-    ensures { result ≡ key_of w.now }
+// What stands behind `.type`, and what a text is by it.
+const KINDS: [(&[u8], Kind); 2] = [(b"fr", Kind::Recording), (b"f", Kind::Sheet)];
+
+// What a word stands for in a table of words.
+fn meaning<T: Copy>(table: &[(&[u8], T)], w: &[u8]) -> Option<T>
+    ensures { result ≡ meaning (map (λ e. (e.0.now, e.1)) table.now) w.now }
 {
-    for (word, key) in &KEYS {
+    for (word, thing) in table {
         if w == *word {
-            return Some(*key);
+            return Some(*thing);
         }
     }
     None
+}
+
+fn key_of(w: &[u8]) -> Option<Key>
+    ensures { result ≡ key_of w.now }
+{
+    meaning(&KEYS, w)
 }
 
 // A number of columns is 1 to 10.
@@ -97,17 +107,10 @@ fn columns_of(n: u64) -> Option<u32>
     }
 }
 
-// What a text is, by what stands behind `.type`.
 fn kind_of(v: &[u8]) -> Option<Kind>
     ensures { unwrap_or (option_map Line.Typed result) Line.Fault ≡ typed_of v.now }
 {
-    if v == b"fr".as_slice() {
-        Some(Kind::Recording)
-    } else if v == b"f".as_slice() {
-        Some(Kind::Sheet)
-    } else {
-        None
-    }
+    meaning(&KINDS, v)
 }
 
 // A keyword, with what stands behind it; the end mark has nothing behind it.

@@ -1,13 +1,10 @@
 -- `lines::kind_of` meets its contract.
-use Rattle.std.proofs.Common.{true, false, refl, rules}
+use Rattle.std.proofs.Common.{ap, ◌∙◌, unwrap_or, option_map}
+use Rattle.lines.specs.declared.Line.TheVariants.{Typed, Fault}
+use Rattle.lines.specs.Lines.{typed_of}
 use Rattle.lines.proofs.LineLaws.{typed_by}
 use Rattle.lines.proofs.kind_of.Goals as goal
 
-pub returns-then-eq : goal.returns-then-eq
-returns-then-eq c = typed_by c.args.v.now c.as_slice.result.now _ true _ (search rules) refl c.if-eq.ensures refl
-
-pub returns-then-eq-2 : goal.returns-then-eq-2
-returns-then-eq-2 c = typed_by c.args.v.now c.as_slice.result.now c.as_slice-else-eq.result.now false true (search rules) (search rules) c.if-eq.ensures c.if-eq-2.ensures
-
-pub returns-else-eq-2 : goal.returns-else-eq-2
-returns-else-eq-2 c = typed_by c.args.v.now c.as_slice.result.now c.as_slice-else-eq.result.now false false (search rules) (search rules) c.if-eq.ensures c.if-eq-2.ensures
+pub returns : goal.returns
+unfolding typed_of
+returns c = ap (λ (k : _). unwrap_or (option_map Typed k) Fault) c.meaning.ensures ∙ typed_by c.args.v.now _ _
