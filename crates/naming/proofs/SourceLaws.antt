@@ -128,20 +128,6 @@ found panel maker column s h p k q =
 
 -- ---- the part that is handed back
 
-pub within_panel : (panel maker : List ℕ) (s : Spot) → Within panel maker s → s.maker ≡ false → s.start + s.length ≤ length panel
-within_panel panel maker s w m = rw m at w.ends
-
-pub within_maker : (panel maker : List ℕ) (s : Spot) → Within panel maker s → s.maker ≡ true → s.start + s.length ≤ length maker
-within_maker panel maker s w m = rw m at w.ends
-
--- the end of a part is no larger than both texts together
-pub within_both : (panel maker : List ℕ) (s : Spot) (k : ℕ) → Within panel maker s → length panel ≤ k → length maker ≤ k → s.start + s.length ≤ k
-within_both panel maker s k w p m = go s.maker refl
-  where
-    go : (b : Bool) → s.maker ≡ b → s.start + s.length ≤ k
-    go false e = omega (arith, within_panel panel maker s w e)
-    go true e = omega (arith, within_maker panel maker s w e)
-
 -- bytes that begin so far into a text are the part that a spot of that text tells
 module _ (panel maker : Bor (List ℕ)) (s q : Spot) (e : q ≡ s) (bytes : List ℕ) (block place : ℕ) where
   pub part_of_panel : q.maker ≡ false → bytes ≡ take (q.start + q.length - q.start) (drop q.start panel.now) → block ≡ panel.ref_ptr.0 → place ≡ panel.ref_ptr.1 + q.start

@@ -29,7 +29,7 @@ pub enum Naming {
     Named(NameLine),
 }
 
-// The name line that two texts give, the panel's or the maker's.
+// The name line that two texts give: whether it stands in the maker's text, as a `Spot` has it, or in the panel's.
 #[derive(Clone, Copy)]
 pub struct Source {
     pub maker: bool,
@@ -94,10 +94,8 @@ fn find_home(text: &[u8]) -> Option<Span>
 fn judge_either(text: &[u8]) -> Result<u32, usize>
     ensures { result ≡ judge_either text.now }
 {
-    judging::judge(judging::recording_layout(), text).or_else(|_| judging::judge(
-        judging::sheet_layout(),
-        text,
-    ))
+    let recording = judging::judge(judging::recording_layout(), text);
+    recording.or_else(|_| judging::judge(judging::sheet_layout(), text))
 }
 
 #[tactic(auto, unfolding(crate::specs::Naming::naming_of))]
