@@ -12,7 +12,7 @@ ghost use Rattle.naming.specs.Naming.{home_of, judge_either, naming_of, source_o
 ghost use Rattle.naming.specs.Columns.{name_line};
 
 use fields::Span;
-use lines::{Line, Part, View};
+use lines::{Line, Lines, Part, View};
 
 // The `.ilb` line of a text: how many columns the text has, and where the line stands in it.
 #[derive(Clone, Copy)]
@@ -75,16 +75,16 @@ fn find_home(text: &[u8]) -> Option<Span>
     ensures { result ≡ home_of text.now }
 {
     let mut at = 0;
-    while at < text.len() {
-        let e = fields::line_end(text, at);
-        let l = lines::scan_line(&text[at..e]);
+    for line in Lines::new(text) {
+        let l = lines::scan_line(line);
+        let to = at + line.len();
         if names_inputs(l) {
-            return Some(Span { from: at, to: e });
+            return Some(Span { from: at, to });
         }
         if !is_aside(l) {
             return None; // name lines stand before the first row
         }
-        at = fields::past(e, text.len());
+        at = to + 1;
     }
     None
 }

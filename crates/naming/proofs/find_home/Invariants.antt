@@ -1,13 +1,10 @@
--- What the loop of this function keeps.
+-- The lines left start at `at`, and the first `.ilb` line among them is that of the text.
 use mathlib.Core.Path.{◌≡◌}
-use Prim.Native.Nat.{◌-◌, ◌≤◌}
-use lib.ListN.{length, drop}
-use Rattle.fields.specs.Texts.{lines_of}
+use Prim.Native.Nat.{◌+◌, ◌≤◌}
+use lib.ListN.{length}
 use Rattle.naming.specs.Naming.{home_from, home_of}
+use Rattle.naming.proofs.HomeLaws.{extent}
 use Rattle.naming.proofs.find_home.Given as goal
 
-abbrev pub invariant-loop-at : goal.invariant-loop-at
-invariant-loop-at l = (l.at ≤ length l.text) × (home_from l.at (lines_of (drop l.at l.text)) ≡ home_of l.text)
-
-abbrev pub decreases-loop-at : goal.decreases-loop-at
-decreases-loop-at l = length l.text - l.at
+abbrev pub invariant-loop-line : goal.invariant-loop-line
+invariant-loop-line l = record { in_text : l.at + extent l.line-iterator ≤ length l.text + 1; same : home_from l.at l.line-iterator ≡ home_of l.text }
