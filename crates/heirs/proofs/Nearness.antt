@@ -98,15 +98,21 @@ module _ (n t b : ℕ) (small : n ≤ 10) (rb : valid_rule n b ≡ true) (hit : 
 
   -- the free relays whose contact no rule has alone beyond b are those of the heirs
   pub heir_bits : (seen i frees barred : ℕ) (part : List ℕ) → seen ≡ near_all b 0 part → i ≡ state t → frees ≡ bits_where n (λ v. free v b)
-      → barred ≡ bits_where 10 (λ v. on (contact_place v i) seen) → bit_and frees (4294967295 - barred) ≡ heir_mask n t b part
+      → barred ≡ bits_where 10 (λ v. on (contact_place v i) seen) → frees - bit_and frees barred ≡ heir_mask n t b part
   unfolding heir_mask
   heir_bits seen i frees barred part es ei eo eb =
-      rw (and_less frees barred (omega (arith, eo, bits_lt n (λ v. free v b), pow_mono {j = 10} small)) (omega (arith, eb, bits_lt 10 (λ v. on (contact_place v i) seen))))
-      (same_bits n (frees - bit_and frees barred) (bits_where n (λ v. heir_by t b v part)) (omega (arith, eo, bits_lt n (λ v. free v b))) (bits_lt n (λ v. heir_by t b v part))
+      same_bits n (frees - bit_and frees barred) (bits_where n (λ v. heir_by t b v part)) (omega (arith, eo, bits_lt n (λ v. free v b))) (bits_lt n (λ v. heir_by t b v part))
       (λ v l.
       on_less v frees barred
       ∙ ap₂ (λ (x y : Bool). x && not y)
       (ap (on v) eo ∙ bits_on n (λ u. free u b) v l)
       (ap (on v) eb ∙ bits_on 10 (λ u. on (contact_place u i) seen) v (omega arith))
       ∙ heir_seen v seen i part l es ei
-      ∙ sym (bits_on n (λ u. heir_by t b u part) v l)))
+      ∙ sym (bits_on n (λ u. heir_by t b u part) v l))
+
+  -- the same as the code finds them, by the complement of what is barred
+  pub heir_bits_but : (seen i frees barred : ℕ) (part : List ℕ) → seen ≡ near_all b 0 part → i ≡ state t → frees ≡ bits_where n (λ v. free v b)
+      → barred ≡ bits_where 10 (λ v. on (contact_place v i) seen) → bit_and frees (4294967295 - barred) ≡ heir_mask n t b part
+  heir_bits_but seen i frees barred part es ei eo eb =
+      rw (and_less frees barred (omega (arith, eo, bits_lt n (λ v. free v b), pow_mono {j = 10} small)) (omega (arith, eb, bits_lt 10 (λ v. on (contact_place v i) seen))))
+      (heir_bits seen i frees barred part es ei eo eb)

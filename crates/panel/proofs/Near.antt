@@ -259,12 +259,11 @@ free_room n w s p m k small rr es ep em ek =
     let l : bit_or (must_on w) (must_off w) < 2 ^ n = or_lt n (must_on w) (must_off w) r.must_on_lt r.must_off_lt in
     (omega (arith, es, pow_pos n), omega (arith, es, ek ∙ ap₂ bit_or ep em, l))
 
--- the relays whose contact was seen, as the code finds them
-pub against_bits : (seen i p m : ℕ) → i < 2 ^ 32 → p ≡ must_on seen → m ≡ must_off seen → bit_or (bit_and m i) (bit_and p (4294967295 - i)) ≡ bits_where 10 (λ v. on (contact_place v i) seen)
+-- the relays whose contact was seen, by one `&` for each mask
+pub against_bits : (seen i p m : ℕ) → p ≡ must_on seen → m ≡ must_off seen → bit_or (bit_and m i) (p - bit_and p i) ≡ bits_where 10 (λ v. on (contact_place v i) seen)
 unfolding contact_place
-against_bits seen i p m li ep em =
-    rw (and_less p i (omega (arith, ep, must_on_small seen)) li)
-    (same_bits 10 (bit_or (bit_and m i) (p - bit_and p i)) (bits_where 10 (λ v. on (place_by (on v i) v) seen))
+against_bits seen i p m ep em =
+    same_bits 10 (bit_or (bit_and m i) (p - bit_and p i)) (bits_where 10 (λ v. on (place_by (on v i) v) seen))
     (or_lt 10 (bit_and m i) (p - bit_and p i) (omega (arith, and_le_l m i, em, must_off_small seen)) (omega (arith, ep, must_on_small seen)))
     (bits_lt 10 (λ v. on (place_by (on v i) v) seen))
     (λ v l.
@@ -272,7 +271,7 @@ against_bits seen i p m li ep em =
     ∙ ap₂ (λ (x y : Bool). x || y) (on_and v m i ∙ ap (λ (x : Bool). x && on v i) (ap (on v) em ∙ must_off_bit v seen l))
     (on_less v p i ∙ ap (λ (x : Bool). x && not (on v i)) (ap (on v) ep ∙ must_on_bit v seen l))
     ∙ either_way (on v i) v
-    ∙ sym (bits_on 10 (λ u. on (place_by (on u i) u) seen) v l)))
+    ∙ sym (bits_on 10 (λ u. on (place_by (on u i) u) seen) v l))
   where
     either_way : (x : Bool) (v : ℕ) → ((on v seen && x) || (on (v + 10) seen && not x)) ≡ on (place_by x v) seen
     either_way true v = first (on v seen) (on (v + 10) seen)
@@ -288,3 +287,8 @@ against_bits seen i p m li ep em =
         second true false = refl
         second false true = refl
         second false false = refl
+
+-- the same as the code finds them, by the complement of the state
+pub against_bits_but : (seen i p m : ℕ) → i < 2 ^ 32 → p ≡ must_on seen → m ≡ must_off seen → bit_or (bit_and m i) (bit_and p (4294967295 - i)) ≡ bits_where 10 (λ v. on (contact_place v i) seen)
+against_bits_but seen i p m li ep em =
+    rw (and_less p i (omega (arith, ep, must_on_small seen)) li) (against_bits seen i p m ep em)

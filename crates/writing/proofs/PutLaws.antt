@@ -38,8 +38,11 @@ module _ (d : List ℕ) (at : ℕ) (s : List ℕ) (h : at + length s ≤ length 
   unfolding written
   written_length = simp (length-append, length-drop) (omega (arith, length-take-le at d (omega arith)))
 
+pub put_length : (d : List ℕ) (at : ℕ) (s d' : List ℕ) (e : ℕ) → at + length s ≤ length d → Put d at s d' e → length d' ≡ length d
+put_length d at s d' e h p = ap length p.bytes ∙ written_length d at s h
+
 -- one thing behind another
-put_then : (d : List ℕ) (at : ℕ) (s d' : List ℕ) (e : ℕ) (u d'' : List ℕ) (f : ℕ) → at + length s ≤ length d → Put d at s d' e → Put d' e u d'' f → Put d at (s ++ u) d'' f
+pub put_then : (d : List ℕ) (at : ℕ) (s d' : List ℕ) (e : ℕ) (u d'' : List ℕ) (f : ℕ) → at + length s ≤ length d → Put d at s d' e → Put d' e u d'' f → Put d at (s ++ u) d'' f
 unfolding written
 put_then d at s d' e u d'' f h p q =
     record {

@@ -13,10 +13,10 @@ use borrow.Author.Tests.{le-leb, lt-leb, leb-true, leb-false}
 use Rattle.fields.specs.Decimals.{decimal}
 use Rattle.writing.specs.TableText.{column_byte, columns, row_text, rows_text, header_text, name_lines, type_text, count_text, table_text}
 use Rattle.writing.specs.SheetText.{sheet_table, sheet_word, sheet_text}
-use Rattle.writing.specs.Writing.{Wrote, count_length, text_length}
+use Rattle.writing.specs.Writing.{Wrote, count_length, text_length, Put}
 use Rattle.writing.specs.declared.Page.{Page}
 use Rattle.writing.specs.declared.Table.{Table}
-use Rattle.writing.proofs.PutLaws.{wrote_none, wrote_then, line_length, wrote_line}
+use Rattle.writing.proofs.PutLaws.{wrote_none, wrote_then, line_length, wrote_line, put_length, put_then}
 use Rattle.writing.proofs.NameLines.{lines_length}
 
 -- ---- columns
@@ -118,12 +118,34 @@ pub wrote_row_text : {p q r t u : Page} (ins outs : ℕ → ℕ → ℕ) (n w : 
 unfolding row_text
 wrote_row_text ins outs n w a b c d = wrote_then a (wrote_then b (wrote_then c d))
 
-pub put_table_text : {p a b c d e f q : Page} (t : Table) (word : List ℕ) (n : ℕ) (names : List (List ℕ)) (ws : List ℕ)
+pub wrote_table_text : {p a b c d e f q : Page} (t : Table) (word : List ℕ) (n : ℕ) (names : List (List ℕ)) (ws : List ℕ)
     → Wrote p (header_text (46 ∷ 105 ∷ 32 ∷ []) n) a → Wrote a (header_text (46 ∷ 111 ∷ 32 ∷ []) n) b → Wrote b (name_lines names) c
     → Wrote c (type_text word) d → Wrote d (count_text t.counted (length ws)) e
     → Wrote e (rows_text (column_byte t.ins) (column_byte t.outs) n ws) f → Wrote f (46 ∷ 101 ∷ 10 ∷ []) q → Wrote p (table_text t word n names ws) q
 unfolding table_text
-put_table_text t word n names ws i o m y k r u = wrote_then i (wrote_then o (wrote_then m (wrote_then y (wrote_then k (wrote_then r u)))))
+wrote_table_text t word n names ws i o m y k r u = wrote_then i (wrote_then o (wrote_then m (wrote_then y (wrote_then k (wrote_then r u)))))
+
+-- the same of lent bytes and places
+module _ (d : List ℕ) (at : ℕ) where
+  pub put_table_text : (t : Table) (word : List ℕ) (n : ℕ) (names : List (List ℕ)) (ws d₁ : List ℕ) (a : ℕ) (d₂ : List ℕ) (b : ℕ) (d₃ : List ℕ) (c : ℕ) (d₄ : List ℕ) (e : ℕ) (d₅ : List ℕ) (f : ℕ) (d₆ : List ℕ) (g : ℕ) (d₇ : List ℕ) (k : ℕ)
+      → at + length (table_text t word n names ws) ≤ length d
+      → Put d at (header_text (46 ∷ 105 ∷ 32 ∷ []) n) d₁ a → Put d₁ a (header_text (46 ∷ 111 ∷ 32 ∷ []) n) d₂ b → Put d₂ b (name_lines names) d₃ c
+      → Put d₃ c (type_text word) d₄ e → Put d₄ e (count_text t.counted (length ws)) d₅ f
+      → Put d₅ f (rows_text (column_byte t.ins) (column_byte t.outs) n ws) d₆ g → Put d₆ g (46 ∷ 101 ∷ 10 ∷ []) d₇ k → Put d at (table_text t word n names ws) d₇ k
+  unfolding table_text
+  put_table_text tb word n names ws d₁ a d₂ b d₃ c d₄ e d₅ f d₆ g d₇ k h i o m y p r u =
+      let l = table_parts tb word n names ws in
+      let l₁ = put_length d at _ d₁ a (omega arith) i in
+      let l₂ = put_length d₁ a _ d₂ b (omega (arith, i.behind)) o in
+      let l₃ = put_length d₂ b _ d₃ c (omega (arith, i.behind, o.behind)) m in
+      let l₄ = put_length d₃ c _ d₄ e (omega (arith, i.behind, o.behind, m.behind)) y in
+      let l₅ = put_length d₄ e _ d₅ f (omega (arith, i.behind, o.behind, m.behind, y.behind)) p in
+      put_then d at _ d₁ a _ d₇ k (omega arith) i
+      (put_then d₁ a _ d₂ b _ d₇ k (omega (arith, i.behind)) o
+      (put_then d₂ b _ d₃ c _ d₇ k (omega (arith, i.behind, o.behind)) m
+      (put_then d₃ c _ d₄ e _ d₇ k (omega (arith, i.behind, o.behind, m.behind)) y
+      (put_then d₄ e _ d₅ f _ d₇ k (omega (arith, i.behind, o.behind, m.behind, y.behind)) p
+      (put_then d₅ f _ d₆ g _ d₇ k (omega (arith, i.behind, o.behind, m.behind, y.behind, p.behind)) r u)))))
 
 -- the length of the text is known before it is written
 pub table_length : (t : Table) (word : List ℕ) (n : ℕ) (names : List (List ℕ)) (ws : List ℕ) → length (table_text t word n names ws) ≡ text_length t word n names (length ws)
