@@ -10,6 +10,7 @@ ghost use Rattle.calls.specs.Apply.{apply_code, apply_answer};
 
 use answers::{Answer, Refusal, done_answer};
 use inner::Done;
+use panel::PanelSize;
 
 // What apply gives: the common numbers, and the state.
 #[derive(Clone, Copy)]
@@ -23,10 +24,8 @@ pub struct Applied {
 pub fn check_fresh(n: u32, room: usize) -> Result<(), Refusal>
     ensures { refusal_code result ≡ fresh_code n room }
 {
-    if !panel::is_panel_size(n) {
-        return Err(Refusal::PanelSize);
-    }
-    if room < n as usize {
+    let n = PanelSize::new(n).ok_or(Refusal::PanelSize)?;
+    if room < n.relays() as usize {
         return Err(Refusal::SheetRoom);
     }
     Ok(())
@@ -40,7 +39,7 @@ pub fn fresh(n: u32, sheet: &mut [u32]) -> Answer
         // From here on a refusal is its number: `Fresh`, which `Contract` of the public calls names, has an answer with a code.
         return Answer::refused(why, 0, 0, 0);
     }
-    sheet::write_fresh(sheet, n);
+    sheet::write_fresh(sheet, PanelSize::of(n));
     let count = n as usize;
     table::clear_from(sheet, count);
     done_answer(0, count, 0, 0)
@@ -60,9 +59,7 @@ fn check_given(
 ) -> Result<(), Refusal>
     ensures { refusal_code result ≡ given_code spoilt n book.now book_count sheet.now sheet_count i j }
 {
-    if !panel::is_panel_size(n) {
-        return Err(Refusal::PanelSize);
-    }
+    let n = PanelSize::new(n).ok_or(Refusal::PanelSize)?;
     if spoilt || book.len() < book_count || sheet.len() < sheet_count {
         return Err(Refusal::Counts);
     }
@@ -72,7 +69,7 @@ fn check_given(
     if !prime::is_good_sheet(n, &sheet[..sheet_count]) {
         return Err(Refusal::Sheet);
     }
-    let states = panel::power(n);
+    let states = n.states();
     if states <= i || states <= j {
         return Err(Refusal::Word);
     }
@@ -111,7 +108,7 @@ fn try_take(
 {
     check_entry(spoilt, n, book, book_count, sheet, sheet_count, i, j)?;
     let t = panel::transition_word(i, j);
-    let done = inner::take_in(n, t, book, book_count, sheet, sheet_count)?;
+    let done = inner::take_in(PanelSize::of(n), t, book, book_count, sheet, sheet_count)?;
     table::clear_from(book, done.book_count);
     table::clear_from(sheet, done.sheet_count);
     Ok(done)
@@ -157,16 +154,14 @@ pub fn take(
 fn check_apply(n: u32, sheet: &[u32], sheet_count: usize, x: u32) -> Result<(), Refusal>
     ensures { refusal_code result ≡ apply_code n sheet.now sheet_count x }
 {
-    if !panel::is_panel_size(n) {
-        return Err(Refusal::PanelSize);
-    }
+    let n = PanelSize::new(n).ok_or(Refusal::PanelSize)?;
     if sheet.len() < sheet_count {
         return Err(Refusal::Counts);
     }
     if !prime::is_good_sheet(n, &sheet[..sheet_count]) {
         return Err(Refusal::Sheet);
     }
-    if panel::power(n) <= x {
+    if n.states() <= x {
         return Err(Refusal::Word);
     }
     Ok(())
@@ -185,6 +180,6 @@ pub fn apply(n: u32, sheet: &[u32], sheet_count: usize, x: u32) -> Applied
     }
     Applied {
         answer: done_answer(0, 0, 0, 0),
-        state: prime::apply_rules(n, &sheet[..sheet_count], x),
+        state: prime::apply_rules(PanelSize::of(n), &sheet[..sheet_count], x),
     }
 }

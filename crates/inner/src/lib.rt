@@ -9,6 +9,7 @@ ghost use Rattle.inner.specs.Booking.{booking_code};
 ghost use Rattle.inner.specs.Inner.{answer_done, answer_of, Ready, Inner};
 
 use answers::{Answer, Refusal, done_answer};
+use panel::PanelSize;
 
 // What a take leaves: how many words stand in both tables, and how many rules it struck and added.
 #[derive(Clone, Copy, PartialEq, Eq, Debug)]
@@ -43,7 +44,7 @@ pub fn check_booking(book: &[u32], i: u32, j: u32, room: usize) -> Result<(), Re
 
 // Take where nothing is left to refuse but 9: judged before a word is written. The words behind both tables are not cleared.
 pub fn take_in(
-    n: u32,
+    n: PanelSize,
     t: u32,
     book: &mut [u32],
     book_count: usize,

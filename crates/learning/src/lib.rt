@@ -12,6 +12,7 @@ ghost use Rattle.learning.specs.Running.{answer_for, words_left, Fit, WordLearne
 
 use answers::{Answer, Refusal};
 use inner::Done;
+use panel::PanelSize;
 
 // Why learn refuses, and the place: of a word in its list, of a word in the book, or 0 before any word.
 #[derive(Clone, Copy, PartialEq, Eq, Debug)]
@@ -29,8 +30,8 @@ impl From<Refusal> for Refused {
 }
 
 // The word t may be taken into the book: it is a transition of the panel, and nothing there stands in its way.
-fn check_word(n: u32, t: u32, book: &[u32], room: usize) -> Result<(), Refusal>
-    requires { (n ≤ 10) × (states_up book.now ≡ true) }
+fn check_word(n: PanelSize, t: u32, book: &[u32], room: usize) -> Result<(), Refusal>
+    requires { states_up book.now ≡ true }
     ensures { refusal_code result ≡ word_code n t room book.now }
 {
     if !panel::is_transition(n, t) {
@@ -41,7 +42,7 @@ fn check_word(n: u32, t: u32, book: &[u32], room: usize) -> Result<(), Refusal>
 
 // The word t, number k of the list, judged and then taken; a repeat is passed over.
 fn learn_word(
-    n: u32,
+    n: PanelSize,
     t: u32,
     k: usize,
     before: Done,
@@ -73,7 +74,7 @@ fn learn_start(n: u32, sheet: &mut [u32]) -> Result<Done, Refused>
     ensures { Begun n sheet.old (answer_for result) sheet.new }
 {
     calls::check_fresh(n, sheet.len())?;
-    sheet::write_fresh(sheet, n);
+    sheet::write_fresh(sheet, PanelSize::of(n));
     Ok(Done {
         book_count: 0,
         sheet_count: n as usize,
@@ -84,7 +85,7 @@ fn learn_start(n: u32, sheet: &mut [u32]) -> Result<Done, Refused>
 
 // Every word of the list in turn, until one is refused.
 fn learn_words(
-    n: u32,
+    n: PanelSize,
     words: &[u32],
     start: Done,
     book: &mut [u32],
@@ -101,8 +102,8 @@ fn learn_words(
 }
 
 // How many words of the book, from the front, the sheet reproduces.
-fn count_reproduced(n: u32, book: &[u32], sheet: &[u32]) -> usize
-    requires { (n ≤ 10) × (all (valid_rule n) sheet.now ≡ true) }
+fn count_reproduced(n: PanelSize, book: &[u32], sheet: &[u32]) -> usize
+    requires { all (valid_rule n) sheet.now ≡ true }
     ensures { (result ≡ reproduced n sheet.now book.now) × (result ≤ length book.now) }
 {
     for (k, &t) in book.iter().enumerate() {
@@ -114,7 +115,7 @@ fn count_reproduced(n: u32, book: &[u32], sheet: &[u32]) -> usize
 }
 
 // The self-check, and the words beyond both tables cleared.
-fn learn_end(n: u32, so: Done, book: &mut [u32], sheet: &mut [u32]) -> Result<Done, Refused>
+fn learn_end(n: PanelSize, so: Done, book: &mut [u32], sheet: &mut [u32]) -> Result<Done, Refused>
     requires { Fit n (answer_done so) book.old sheet.old }
     ensures { Finished n (answer_done so) book.old sheet.old (answer_for result) (words_left result book.new) (words_left result sheet.new) }
 {
@@ -135,6 +136,7 @@ fn try_learn(n: u32, words: &[u32], book: &mut [u32], sheet: &mut [u32]) -> Resu
     ensures { Learned n words.now (length book.old) (length sheet.old) (words_left result book.new) (words_left result sheet.new) (answer_for result) }
 {
     let start = learn_start(n, sheet)?;
+    let n = PanelSize::of(n);
     let so = learn_words(n, words, start, book, sheet)?;
     learn_end(n, so, book, sheet)
 }

@@ -12,8 +12,11 @@ pub slice_bounds-apply_rules-end : goal.slice_bounds-apply_rules-end
 slice_bounds-apply_rules-end c =
     sym (length-take-le _ _ (apply_none _ c.args.sheet.now _ c.args.x _ c.in_default.ensures refl).1)
 
+pub of-requires : goal.of-requires
+of-requires c = (apply_none _ c.args.sheet.now _ c.args.x _ c.in_default.ensures refl).0
+
 pub apply_rules-requires : goal.apply_rules-requires
-apply_rules-requires c = let k = apply_none _ c.args.sheet.now _ c.args.x _ c.in_default.ensures refl in (k.0, k.2)
+apply_rules-requires c = rw c.of.ensures (apply_none _ c.args.sheet.now _ c.args.x _ c.in_default.ensures refl).2
 
 pub returns : goal.returns
-returns c = apply_done _ _ _ _ _ c.in_default.ensures _ refl c.done_answer.ensures _ c.apply_rules.ensures
+returns c = apply_done _ _ _ _ _ c.in_default.ensures _ refl c.done_answer.ensures _ (rw c.of.ensures at c.apply_rules.ensures)

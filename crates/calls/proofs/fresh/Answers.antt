@@ -8,11 +8,14 @@ use Rattle.calls.proofs.fresh.Goals as goal
 pub returns-in-Err : goal.returns-in-Err
 returns-in-Err c = fresh_refused _ _ _ c.in-Err.ensures (code_not_none _) _ c.refused.ensures
 
+pub of-requires : goal.of-requires
+of-requires c = (fresh_none _ _ (sym c.in_default.ensures)).0
+
 pub write_fresh-requires : goal.write_fresh-requires
-write_fresh-requires c = fresh_none _ _ (sym c.in_default.ensures)
+write_fresh-requires c = rw c.of.ensures (fresh_none _ _ (sym c.in_default.ensures)).1
 
 pub clear_from-requires : goal.clear_from-requires
 clear_from-requires c = omega (arith, (fresh_none _ _ (sym c.in_default.ensures)).1)
 
 pub returns : goal.returns
-returns c = fresh_done _ _ _ c.in_default.ensures refl _ _ _ c.write_fresh.ensures c.clear_from.ensures c.done_answer.ensures
+returns c = fresh_done _ _ _ c.in_default.ensures refl _ _ _ (rw c.of.ensures at c.write_fresh.ensures) c.clear_from.ensures c.done_answer.ensures

@@ -25,7 +25,7 @@ put_word-requires c =
 
 pub take_rules-requires : goal.take_rules-requires
 take_rules-requires c =
-    (c.requires.small, c.requires.sheets_in, c.requires.sheet_is_good, inner_room _ _ _ _ _ _ c.requires _ c.count_changes-change.ensures _ refl c.if-sheet-sheet_count.false)
+    (c.requires.sheets_in, c.requires.sheet_is_good, inner_room _ _ _ _ _ _ c.requires _ c.count_changes-change.ensures _ refl c.if-sheet-sheet_count.false)
 
 pub returns : goal.returns
 returns c =

@@ -5,7 +5,7 @@ use Rattle.learning.proofs.Ends.{end_asks, end_ten, end_done}
 use Rattle.learning.proofs.learn_end.Goals as goal
 
 pub count_reproduced-sound-requires : goal.count_reproduced-sound-requires
-count_reproduced-sound-requires c = end_asks _ (answer_done c.args.so) c.args.book.now _ c.requires refl
+count_reproduced-sound-requires c = (end_asks _ (answer_done c.args.so) c.args.book.now _ c.requires refl).1
 
 pub returns-then-sound-so : goal.returns-then-sound-so
 returns-then-sound-so c = end_ten _ (answer_done c.args.so) _ _ c.requires refl _ c.count_reproduced-sound.ensures.0 c.if-sound-so.true _ refl _ _ refl refl

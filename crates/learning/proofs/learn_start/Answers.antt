@@ -10,8 +10,11 @@ pub returns-in_err-check_fresh : goal.returns-in_err-check_fresh
 returns-in_err-check_fresh c =
     rw (passed_on _ c.from_residual.ensures.1) (begun_refused _ _ _ c.in_err-check_fresh.ensures _ (code_not_none _) refl)
 
+pub of-requires : goal.of-requires
+of-requires c = (fresh_none _ _ (sym c.in_ok-check_fresh.ensures)).0
+
 pub write_fresh-requires : goal.write_fresh-requires
-write_fresh-requires c = fresh_none _ _ (sym c.in_ok-check_fresh.ensures)
+write_fresh-requires c = rw c.of.ensures (fresh_none _ _ (sym c.in_ok-check_fresh.ensures)).1
 
 pub returns : goal.returns
-returns c = begun_done _ _ _ c.in_ok-check_fresh.ensures _ refl _ c.write_fresh.ensures refl
+returns c = begun_done _ _ _ c.in_ok-check_fresh.ensures _ refl _ (rw c.of.ensures at c.write_fresh.ensures) refl

@@ -9,7 +9,7 @@ use Rattle.learning.proofs.Words.{word_asks, word_repeat, word_refused, word_nex
 use Rattle.learning.proofs.learn_word.Goals as goal
 
 pub check_word-requires : goal.check_word-requires
-check_word-requires c = word_asks _ c.args.k c.args.t (answer_done c.args.before) _ c.args.sheet.now refl c.requires
+check_word-requires c = (word_asks _ c.args.k c.args.t (answer_done c.args.before) _ c.args.sheet.now refl c.requires).1
 
 pub returns-in-Known : goal.returns-in-Known
 returns-in-Known c =
