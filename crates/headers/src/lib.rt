@@ -34,12 +34,13 @@ pub struct Seen {
     pub count: bool,
 }
 
-// What is known after some lines: which headers stood there; the size, 0 where not given yet; the number of `.p` and its line;
-// how many rows; whether the end mark stood there.
+// What is known after some lines: which headers stood there; the size, where it is given; the number of `.p` and its line; how many
+// rows; whether the end mark stood there.
 #[derive(Clone, Copy, Default)]
 pub struct State {
     pub seen: Seen,
-    pub size: u32,
+    pub size: Option<u32>,
+    // The number and the place are read only where `seen` has `.p`: no Option, since `has_header` and `with_header` treat the six headers alike.
     pub want: u64,
     pub place: usize,
     pub rows: u64,
