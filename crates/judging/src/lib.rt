@@ -246,7 +246,7 @@ fn finish(st: State, k: usize) -> Result<u32, usize>
     } else if st.seen.count && st.want != st.rows {
         Err(st.place)
     } else {
-        st.size.ok_or(k)
+        st.size.ok_or(k) // there is a size: both stood before the end mark
     }
 }
 
@@ -255,7 +255,7 @@ pub fn judge(lay: Layout, text: &[u8]) -> Result<u32, usize>
 {
     let mut st = State::default();
     let mut held: &[u8] = &[]; // the name line that stood there
-    let mut k = 1;
+    let mut k = 1; // the number of the line, and after the loop that after the last: `enumerate` would lose that
     for line in Lines::new(text) {
         let l = lines::scan_line(line);
         if !allowed(lay, st, l) || !agrees(st.seen, held, l, line) {
