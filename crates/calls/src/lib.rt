@@ -46,6 +46,7 @@ pub fn fresh(n: u32, sheet: &mut [u32]) -> Answer
 }
 
 // The size, the counts, the book, the sheet and the transition are sound: refused with 2 to 6.
+// Slices and counts come apart, as `take` and `take_unless` have them: C lends them so, and `Contract` of the public calls names each.
 #[tactic(auto, using(std::proofs::lemmas::Bool::Decides::nat_tests), unfolding(crate::specs::Take::given_code, panel::specs::Masks::panel_size))]
 fn check_given(
     spoilt: bool,

@@ -28,6 +28,7 @@ impl Session {
         ensures { Starts n sheet.old sheet.new result }
     {
         let answer = calls::fresh(n, sheet);
+        // The code is a number here, as `Starts` and `Takes`, which `Contract` of the public calls names, have it.
         if answer.code != 0 {
             return Outcome {
                 answer,
