@@ -1,10 +1,9 @@
 -- Least by taking one contact away at a time, for any test that is closed upwards.
-use mathlib.Core.Path.{◌≡◌, refl, sym, ap, ◌∙◌, subst}
+use mathlib.Core.Path.{◌≡◌, sym, ap, ◌∙◌, subst}
 use mathlib.Core.Logic.{◌⊎◌, inl, inr}
-use mathlib.Core.Bool.{Bool, true, false, not, ◌&&◌, ◌||◌, false≢true}
-use Prim.Native.Nat.{ℕ, zero, suc, ◌+◌, ◌-◌, ◌*◌, ◌^◌, ◌≤◌, ◌<◌}
+use mathlib.Core.Bool.{Bool, true, false, not, ◌||◌, false≢true}
+use Prim.Native.Nat.{ℕ, zero, suc, ◌-◌, ◌*◌, ◌^◌, ◌≤◌, ◌<◌}
 use native.Mathlib.Nat.{eq-or-lt_of_le, le_of_suc-le-suc, not-suc-le-zero}
-use native.Mathlib.Numerals.{add-one}
 use native.Mathlib.Omega.{arith}
 use lib.Dec.{eqb}
 use borrow.Author.Tests.{eqb-true, eq-eqb}
@@ -96,24 +95,6 @@ module _ (n : ℕ) (small : n ≤ 10) (q : ℕ → Bool) (up : Upward n q) (w : 
   least_done x e p v l k f =
       let d : n ≡ v = omega arith in
       sym (least_i n small q w (least_of_fewer (sym e ∙ p) (λ t. false≢true (sym f ∙ ap (λ (m : ℕ). fewer m q w) (sym d) ∙ t))))
-
-pub fewer_start : (q : ℕ → Bool) (w : ℕ) → fewer 0 q w ≡ false
-unfolding fewer
-fewer_start q w = refl
-
-pub fewer_more : (q : ℕ → Bool) (w v : ℕ) → fewer v q w ≡ false → (d : ℕ) → d ≡ without w v → (x : Bool) → x ≡ smaller q w d → x ≡ false → fewer (v + 1) q w ≡ false
-unfolding fewer
-fewer_more q w v f d ed x e p = rw add-one (ap (λ (b : Bool). b || smaller q w (without w v)) f ∙ ap (smaller q w) (sym ed) ∙ sym e ∙ p)
-
--- ---- `if x == w { return false; } q(x)`
-
-pub smaller_same : (q : ℕ → Bool) (w x : ℕ) → x ≡ w → false ≡ smaller q w x
-unfolding smaller
-smaller_same q w x e = sym (ap (λ (b : Bool). not b && q x) (eq-eqb x w e))
-
-pub smaller_other : (q : ℕ → Bool) (w x : ℕ) → (x ≡ w → ⊥) → (y : Bool) → y ≡ q x → y ≡ smaller q w x
-unfolding smaller
-smaller_other q w x d y e = e ∙ sym (ap (λ (b : Bool). not b && q x) (false_test (eqb x w) (λ t. d (eqb-true x w t))))
 
 -- ---- `without` as code finds it: x is 2^v, p and m the masks, a and b the bits
 

@@ -2,12 +2,12 @@
 use mathlib.Core.Path.{◌≡◌, refl, sym, ap, ap₂, ◌∙◌}
 use mathlib.Core.Bool.{Bool, true, false}
 use mathlib.Core.List.{List, [], ◌∷◌, ◌++◌, append_assoc, append-nil}
-use Prim.Native.Nat.{ℕ, ◌+◌, ◌-◌, ◌≤◌, ◌<◌}
+use Prim.Native.Nat.{ℕ, ◌-◌, ◌≤◌, ◌<◌}
 use native.Mathlib.Nat.{le_of_suc-le-suc, not-suc-le-zero}
 use native.Mathlib.Omega.{arith}
 use lib.ListN.{length, take, drop, set, length-append, length-drop, drop_of_length-le}
 use lib.Seq.{drop-append_seam, take-append_seam, drop-drop, take_all}
-use Rattle.table.specs.Lists.{cons_if, one_if}
+use Rattle.table.specs.Lists.{cons_if}
 use Rattle.spans.specs.Parts.{over, put_if, Laid}
 
 pub over_length : (xs s : List ℕ) → length xs ≤ length s → length (over xs s) ≡ length s
@@ -64,13 +64,3 @@ pub nothing_over : (xs s : List ℕ) → 0 ≡ length xs → (0 ≡ length xs) �
 unfolding over
 nothing_over [] s e = (refl, refl)
 nothing_over (x ∷ xs) s e = absurd (omega (arith, e))
-
--- ---- `if keep { out[at] = w; return at + 1; } at`
-
-pub put_yes : (b : Bool) (at w : ℕ) (s : List ℕ) → b ≡ true → (at + 1 ≡ at + one_if b) × (set s at w ≡ put_if b at w s)
-put_yes true at w s e = (refl, refl)
-put_yes false at w s e = (ap (λ (x : Bool). at + one_if x) (sym e), ap (λ (x : Bool). put_if x at w s) (sym e))
-
-pub put_no : (b : Bool) (at w : ℕ) (s : List ℕ) → b ≡ false → (at ≡ at + one_if b) × (s ≡ put_if b at w s)
-put_no true at w s e = (omega (arith, ap one_if e), sym (ap (λ (x : Bool). put_if x at w s) e))
-put_no false at w s e = (omega arith, refl)

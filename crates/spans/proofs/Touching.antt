@@ -1,17 +1,13 @@
 -- The quick test inside one head: a rule permits a word when all its bits are on there.
 use mathlib.Core.Path.{◌≡◌}
-use mathlib.Core.Bool.{Bool, true, false}
 use mathlib.Core.List.{List, Memᴰ as Mem}
 use Prim.Native.Nat.{ℕ}
-use lib.Bits.{bit_and}
 use Rattle.table.specs.Lists.{any}
-use Rattle.table.proofs.Basics.{same_test, false_test, any_e, any_i}
-use Rattle.table.proofs.Searching.{any_left, any_start}
+use Rattle.table.proofs.Basics.{same_test, any_e, any_i}
 use Rattle.panel.specs.Rules.{head, narrows}
 use Rattle.panel.specs.Masks.{within}
 use Rattle.panel.proofs.Masks.{within_eq, eq_within, within_trans}
 use Rattle.panel.proofs.Words.{narrows_word, word_narrows}
-use Rattle.panel.proofs.Judging.{both_then, both_else}
 use Rattle.prime.specs.Sheets.{permits}
 use Rattle.prime.proofs.Least.{Upward, both_up}
 use Rattle.spans.specs.Touching.{touches, both_touch}
@@ -33,23 +29,3 @@ touches_up n s w r rw' rr p e =
 pub both_touch_up : (n : ℕ) (s t : List ℕ) → Upward n (both_touch s t)
 unfolding both_touch
 both_touch_up n s t = both_up n (touches s) (touches t) (touches_up n s) (touches_up n t)
-
--- ---- `s[k] & w == s[k]`, in a loop
-
-pub touches_start : (s : List ℕ) (w : ℕ) → touches s w ≡ any_left (λ r. within r w) s 0
-unfolding touches
-touches_start s w = any_start (λ r. within r w) s
-
-pub within_not : (r w : ℕ) → (bit_and r w ≡ r → ⊥) → within r w ≡ false
-within_not r w f = false_test (within r w) (λ e. f (within_eq r w e))
-
--- ---- `if touches(s) { touches(t) } else { false }`
-
-module _ (s t : List ℕ) (w : ℕ) (x : Bool) (e : x ≡ touches s w) where
-  pub both_touch_then : x ≡ true → (y : Bool) → y ≡ touches t w → y ≡ both_touch s t w
-  unfolding both_touch
-  both_touch_then p y f = both_then x (touches s w) (touches t w) y e p f
-
-  pub both_touch_else : x ≡ false → false ≡ both_touch s t w
-  unfolding both_touch
-  both_touch_else p = both_else x (touches s w) (touches t w) e p
