@@ -47,7 +47,7 @@ impl Refusal {
 }
 
 // The code is a number, 0 where nothing was refused: so `Contract` of every public call, the theorems of handover and C have it.
-#[derive(Clone, Copy)]
+#[derive(Clone, Copy, PartialEq, Eq, Debug)]
 pub struct Answer {
     pub code: u32,
     pub place: usize,

@@ -13,7 +13,7 @@ use inner::Done;
 use panel::PanelSize;
 
 // What apply gives: the common numbers, and the state.
-#[derive(Clone, Copy)]
+#[derive(Clone, Copy, PartialEq, Eq, Debug)]
 pub struct Applied {
     pub answer: Answer,
     pub state: u32,

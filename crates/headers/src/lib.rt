@@ -5,7 +5,7 @@ use lines::{Kind, Part};
 
 // What is asked of a text: the word of its type line, and whether that line is required; whether `-` may stand in inputs and in
 // outputs; whether exactly one output of a row is `1`.
-#[derive(Clone, Copy)]
+#[derive(Clone, Copy, PartialEq, Eq, Debug)]
 pub struct Layout {
     pub kind: Kind,
     pub typed: bool,
@@ -15,7 +15,7 @@ pub struct Layout {
 }
 
 // A header: `.i` or `.o`, `.ilb` or `.ob`, `.type`, `.p`.
-#[derive(Clone, Copy)]
+#[derive(Clone, Copy, PartialEq, Eq, Debug)]
 pub enum Header {
     Size(Part),
     Names(Part),
@@ -24,7 +24,7 @@ pub enum Header {
 }
 
 // Which headers stood there.
-#[derive(Clone, Copy, Default)]
+#[derive(Clone, Copy, PartialEq, Eq, Debug, Default)]
 pub struct Seen {
     pub ins: bool,
     pub outs: bool,
@@ -36,7 +36,7 @@ pub struct Seen {
 
 // What is known after some lines: which headers stood there; the size, where it is given; the number of `.p` and its line; how many
 // rows; whether the end mark stood there.
-#[derive(Clone, Copy, Default)]
+#[derive(Clone, Copy, PartialEq, Eq, Debug, Default)]
 pub struct State {
     pub seen: Seen,
     pub size: Option<u32>,

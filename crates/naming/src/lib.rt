@@ -15,14 +15,14 @@ use fields::Span;
 use lines::{Line, Lines, Part, View};
 
 // The `.ilb` line of a text: how many columns the text has, and where the line stands in it.
-#[derive(Clone, Copy)]
+#[derive(Clone, Copy, PartialEq, Eq, Debug)]
 pub struct NameLine {
     pub columns: u32,
     pub at: Span,
 }
 
 // What a text says of names: both readers refuse it with 11, it has no name lines, or its name line.
-#[derive(Clone, Copy)]
+#[derive(Clone, Copy, PartialEq, Eq, Debug)]
 pub enum Naming {
     Refused,
     Nameless,
@@ -30,7 +30,7 @@ pub enum Naming {
 }
 
 // The name line that two texts give: whether it stands in the maker's text, as a `Spot` has it, or in the panel's.
-#[derive(Clone, Copy)]
+#[derive(Clone, Copy, PartialEq, Eq, Debug)]
 pub struct Source {
     pub maker: bool,
     pub names: NameLine,
@@ -49,7 +49,7 @@ impl Source {
 
 // A part of the panel's text or of the maker's. A name that is not there is the empty part at the start of the panel's text, and no `None`:
 // `Contract (find_name ..)` (public/specs/PublicCalls) and the three numbers of C hold it.
-#[derive(Clone, Copy)]
+#[derive(Clone, Copy, PartialEq, Eq, Debug)]
 pub struct Spot {
     pub maker: bool,
     pub start: usize,

@@ -13,7 +13,7 @@ use headers::Layout;
 use lines::{Kind, Line, Lines, Masks, View};
 
 // The code is a number, 0 where nothing was refused: so `Contract (read ..)` (public/specs/PublicCalls), the theorems of promises and C have it.
-#[derive(Clone, Copy)]
+#[derive(Clone, Copy, PartialEq, Eq, Debug)]
 pub struct ReadAnswer {
     pub code: u32,
     pub place: usize,

@@ -16,7 +16,7 @@ pub struct Session {
 }
 
 // What start and take give: the answer, and the session after the call.
-#[derive(Clone, Copy)]
+#[derive(Clone, Copy, PartialEq, Eq, Debug)]
 pub struct Outcome {
     pub answer: Answer,
     pub session: Session,

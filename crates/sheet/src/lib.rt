@@ -15,7 +15,7 @@ ghost use Rattle.sheet.specs.Taking.{tally_of, Tallying, on_count, FirstOn, plan
 use panel::PanelSize;
 
 // What a take strikes and adds.
-#[derive(Clone, Copy)]
+#[derive(Clone, Copy, PartialEq, Eq, Debug)]
 pub struct Tally {
     pub struck: usize,
     pub added: usize,
@@ -37,22 +37,6 @@ fn count_on(n: PanelSize, mask: u32) -> usize
     (0..n.relays()).filter(|&v| panel::is_on(v, mask)).count()
 }
 
-// What has been counted so far, with the rule b of the sheet.
-fn tally_rule(before: Tally, sheet: &[u32], n: PanelSize, t: u32, k: usize) -> Tally
-    requires { (good_sheet n sheet.now ≡ true) × (k < length sheet.now) × Tallying n t sheet.now k before.struck before.added }
-    ensures { Tallying n t sheet.now (k + 1) result.struck result.added }
-{
-    let b = sheet[k];
-    if panel::is_spared(t, b) {
-        return before;
-    }
-    let c = count_on(n, heirs_of(sheet, n, t, b));
-    Tally {
-        struck: before.struck + 1,
-        added: before.added + c,
-    }
-}
-
 // What a take of t strikes and adds, before anything is written.
 pub fn count_changes(sheet: &[u32], n: PanelSize, t: u32) -> Tally
     requires { good_sheet n sheet.now ≡ true }
@@ -62,8 +46,11 @@ pub fn count_changes(sheet: &[u32], n: PanelSize, t: u32) -> Tally
         struck: 0,
         added: 0,
     };
-    for k in 0..sheet.len() {
-        so = tally_rule(so, sheet, n, t, k);
+    for &b in sheet {
+        if !panel::is_spared(t, b) {
+            so.struck += 1;
+            so.added += count_on(n, heirs_of(sheet, n, t, b));
+        }
     }
     so
 }

@@ -14,7 +14,7 @@ use fields::Fields;
 use panel::PanelSize;
 
 // The common numbers, and the length of the text.
-#[derive(Clone, Copy)]
+#[derive(Clone, Copy, PartialEq, Eq, Debug)]
 pub struct WriteAnswer {
     pub answer: Answer,
     pub length: usize,
