@@ -36,6 +36,7 @@ pub fn names_count(s: &[u8]) -> Option<u64>
 {
     let mut count = 0;
     let mut left = Fields::new(s);
+    // No `for`: it would hold the iterator, of which the fields behind w are asked.
     while let Some(w) = left.next() {
         if !name_ok(w) || has_field(w, left) {
             return None;

@@ -42,6 +42,7 @@ fn put_learned(
 ) -> usize
     ensures { Sheets n text.now words.now book.old sheet.old out.old book.new sheet.new out.new result }
 {
+    // The answers of the public calls hold their code as a number (`Contract`, public/specs/PublicCalls), and so does the line that is printed.
     let learned = learning::learn(n, words, book, sheet);
     if learned.code != 0 {
         return put_refusal(learned.code, learned.place, out);

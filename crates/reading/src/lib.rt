@@ -21,6 +21,8 @@ pub struct ReadAnswer {
     pub count: usize,
 }
 
+// `RowOk m` stays a clause: the definition `row_of` makes masks of any two cubes, so that not all `Masks` are such.
+
 // A state matches the input part of a row.
 fn matches(m: Masks, state: u32) -> bool
     requires { RowOk m }

@@ -147,7 +147,7 @@ fn write_head(n: PanelSize, h: u32, a: &[u32], b: &[u32], out: &mut [u32]) -> us
     if a.is_empty() || b.is_empty() {
         return 0;
     }
-    let mut at = 0;
+    let mut at = 0; // counted by hand, since the count is the answer too: `enumerate` would not leave it behind the loop
     for w in Rules::of_head(n, h).filter(|&w| is_kept(n, a, b, w)) {
         out[at] = w;
         at += 1;

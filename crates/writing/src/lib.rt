@@ -76,7 +76,7 @@ impl<'a> Page<'a> {
         self.at = end;
     }
 
-    // A number in decimal: the digits of a tenth of it, and then the last.
+    // A number in decimal: the digits of a tenth of it, and then the last. By recursion, as the definition goes: the first digit is known last.
     pub fn number(&mut self, v: usize)
         requires { Room self.old (decimal v) }
         ensures { Wrote self.old (decimal v) self.new }
