@@ -84,12 +84,6 @@ module _ (n : ℕ) (so : Answer) (book sheet : List ℕ) where
     abbrev s : List ℕ
     s = take so.sheet_count sheet
 
-    pub end_books : so.book_count ≤ length book
-    end_books = sd.books_in
-
-    pub end_sheets : so.sheet_count ≤ length sheet
-    end_sheets = sd.sheets_in
-
     pub end_asks : (n ≤ 10) × (all (valid_rule n) s ≡ true)
     end_asks = (sd.small, good_rules n s sd.sheet_is_good)
 

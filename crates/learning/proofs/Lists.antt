@@ -103,9 +103,6 @@ pub record Learning (n : ℕ) (ts : List ℕ) (a : Answer) (book sheet : List �
   pub book_room : length bz ≡ length book
   pub sheet_room : length sz ≡ length sheet
 
-pub learning_start : (n : ℕ) (ts : List ℕ) (a : Answer) (book sheet : List ℕ) → Fit n a book sheet → Learning n ts a book sheet 0 a book sheet
-learning_start n ts a book sheet f = record { left = refl; fit = f; book_room = refl; sheet_room = refl }
-
 pub through_stands : (n : ℕ) (ts : List ℕ) (a : Answer) (book sheet : List ℕ) → Fit n a book sheet → (a.code ≡ 0 → ⊥) → Through n ts a book sheet a book sheet
 through_stands n ts a book sheet f g =
     let e = run_of_refused a book sheet g in

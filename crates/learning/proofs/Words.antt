@@ -129,14 +129,6 @@ code_none n t room b e = let a = refuse_none (not (valid_transition n t)) 5 _ e 
 -- ---- the ways through `learn_word`
 
 module _ (n k t : ℕ) (a : Answer) (book sheet : List ℕ) where
-  -- a refusal stands
-  pub word_stands : Fit n a book sheet → (a.code ≡ 0 → ⊥) → WordLearned n k t a book sheet a book sheet
-  unfolding learn_step
-  word_stands f g = record {
-    run = run_of_refused a book sheet g ∙ sym (ap (learn_step n (length book) (length sheet) k t) (run_of_refused a book sheet g));
-    fit = f;
-  }
-
   abbrev b : List ℕ
   b = take a.book_count book
 
@@ -160,9 +152,6 @@ module _ (n k t : ℕ) (a : Answer) (book sheet : List ℕ) where
     }
 
     module _ (f : Fit n a book sheet) where
-      pub word_books : a.book_count ≤ length book
-      word_books = (f.sound z).books_in
-
       pub word_asks : (n ≤ 10) × (states_up b ≡ true)
       word_asks = ((f.sound z).small, (book_e n b (f.sound z).book_is_good).rising)
 
