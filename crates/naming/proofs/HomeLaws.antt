@@ -7,13 +7,13 @@ use mathlib.Core.List.{List, [], ◌∷◌, Memᴰ as Mem}
 use mathlib.Core.Logic.{⊎_elim}
 use mathlib.Core.Bool.{Bool, true, false, cond}
 use native.Mathlib.Omega.{arith}
-use Rattle.std.specs.Prelude.{Some, None}
+use Rattle.std.specs.Prelude.{Option, Some, None}
 use Rattle.std.proofs.lemmas.Option.{none-some}
 use lib.Dec.{ltb}
 use lib.ListN.{length, drop, length-take, length-drop, drop_of_length-le}
 use borrow.Author.Tests.{ltb-false}
-use Rattle.fields.specs.Bytes.{mark_of, feed_mark, run}
-use Rattle.fields.specs.Texts.{lines_of, push, past_of}
+use Rattle.fields.specs.Bytes.{run}
+use Rattle.fields.specs.Texts.{lines_of, past_of}
 use Rattle.fields.specs.declared.Span.{Span}
 use Rattle.fields.specs.declared.Stretch.TheVariants.{Whole}
 use Rattle.fields.proofs.ByteLaws.{run_le}
@@ -29,6 +29,7 @@ use Rattle.headers.specs.Accepted.{is_header}
 use Rattle.headers.specs.Places.{is_aside}
 use Rattle.headers.specs.declared.Header.{Header}
 use Rattle.headers.specs.declared.Header.TheVariants.{Names}
+use Rattle.lines.specs.Placed.{placed_from}
 use Rattle.naming.specs.Naming.{home_from, home_of}
 
 -- a line as the code keeps it is the same header
@@ -77,44 +78,32 @@ home_over t at h = rw (drop_of_length-le t {i = at} h)
 
 -- ---- the loop over the lines
 
--- the bytes of lines, each with its LF
-abbrev pub extent : List (List ℕ) → ℕ
-extent [] = 0
-extent (l ∷ ls) = length l + 1 + extent ls
+-- the `.ilb` line among lines with their places
+abbrev pub home_in : List (Span × List ℕ) → Option Span
+home_in [] = None
+home_in (p ∷ ps) = cond (is_header (Names Ins) (line_of p.1)) (Some p.0) (cond (is_aside (view_of (line_of p.1))) (home_in ps) None)
 
-push_extent : (b : ℕ) (ls : List (List ℕ)) (k : ℕ) → extent ls ≤ k + 1 → extent (push b ls) ≤ k + 2
-push_extent b [] k h = omega arith
-push_extent b (l ∷ ls) k h = omega arith
-
--- only the last line of a text may lack it
-pub lines_extent : (t : List ℕ) → extent (lines_of t) ≤ length t + 1
-unfolding lines_of
-lines_extent [] = omega arith
-lines_extent (b ∷ t) = go (feed_mark (mark_of b)) (lines_extent t)
-  where
-    go : (f : Bool) → extent (lines_of t) ≤ length t + 1 → extent (cond f ([] ∷ lines_of t) (push b (lines_of t))) ≤ suc (length t) + 1
-    go true h = omega arith
-    go false h = let p = push_extent b (lines_of t) (length t) h in omega arith
+pub home_placed : (at : ℕ) (ls : List (List ℕ)) → home_in (placed_from at ls) ≡ home_from at ls
+unfolding placed_from home_from
+home_placed at [] = refl
+home_placed at (l ∷ ls) = rw (home_placed (at + length l + 1) ls) refl
 
 -- from one line on: l is what it says, as the code keeps it, and b and d are tests of it
-module _ (at : ℕ) (s : List ℕ) (rest : List (List ℕ)) (l : Line) (hl : l ≡ keep_line (line_of s)) (b : Bool) (hb : b ≡ is_header (Names Ins) l) where
+module _ (at : Span) (s : List ℕ) (rest : List (Span × List ℕ)) (l : Line) (hl : l ≡ keep_line (line_of s)) (b : Bool) (hb : b ≡ is_header (Names Ins) l) where
   header_test : is_header (Names Ins) (line_of s) ≡ b
   header_test = sym (hb ∙ ap (λ (x : Line). is_header (Names Ins) x) hl ∙ header_kept (Names Ins) (line_of s))
 
-  pub home_here : b ≡ true → home_from at (s ∷ rest) ≡ Some (record { from = at; to = at + length s })
-  unfolding home_from
+  pub home_here : b ≡ true → home_in ((at, s) ∷ rest) ≡ Some at
   home_here t = rw (header_test, t) refl
 
   module _ (f : b ≡ false) (d : Bool) (hd : d ≡ is_aside (view_of l)) where
     aside_test : is_aside (view_of (line_of s)) ≡ d
     aside_test = sym (hd ∙ ap (λ (x : Line). is_aside (view_of x)) hl ∙ ap is_aside (view_kept (line_of s)))
 
-    pub home_on : d ≡ true → home_from at (s ∷ rest) ≡ home_from (at + length s + 1) rest
-    unfolding home_from
+    pub home_on : d ≡ true → home_in ((at, s) ∷ rest) ≡ home_in rest
     home_on t = rw (header_test, f, aside_test, t) refl
 
-    pub home_ends : d ≡ false → home_from at (s ∷ rest) ≡ None
-    unfolding home_from
+    pub home_ends : d ≡ false → home_in ((at, s) ∷ rest) ≡ None
     home_ends t = rw (header_test, f, aside_test, t) refl
 
 -- ---- what is found

@@ -12,7 +12,7 @@ ghost use Rattle.naming.specs.Naming.{home_of, judge_either, naming_of, source_o
 ghost use Rattle.naming.specs.Columns.{name_line};
 
 use fields::Span;
-use lines::{Line, Lines, Part, View};
+use lines::{Line, Part, PlacedLines, View};
 
 // The `.ilb` line of a text: how many columns the text has, and where the line stands in it.
 #[derive(Clone, Copy, PartialEq, Eq, Debug)]
@@ -74,17 +74,14 @@ fn is_aside(l: Line) -> bool
 fn find_home(text: &[u8]) -> Option<Span>
     ensures { result ≡ home_of text.now }
 {
-    let mut at = 0;
-    for line in Lines::new(text) {
+    for (at, line) in PlacedLines::new(text) {
         let l = lines::scan_line(line);
-        let to = at + line.len();
         if names_inputs(l) {
-            return Some(Span { from: at, to });
+            return Some(at);
         }
         if !is_aside(l) {
             return None; // name lines stand before the first row
         }
-        at = to + 1;
     }
     None
 }

@@ -122,16 +122,16 @@ pub fn finish(read: Result<(u32, usize), (Refusal, usize)>, list: &mut [u32]) ->
         }
         Err((why, place)) => {
             table::clear(list);
-            refused(why, place)
+            refused(why.code(), place)
         }
     }
 }
 
-pub fn refused(why: Refusal, place: usize) -> ReadAnswer
-    ensures { result ≡ refusal (code_of why) place }
+pub fn refused(code: u32, place: usize) -> ReadAnswer
+    ensures { result ≡ refusal code place }
 {
     ReadAnswer {
-        code: why.code(),
+        code,
         place,
         n: 0,
         count: 0,
