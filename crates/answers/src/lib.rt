@@ -46,6 +46,21 @@ impl Refusal {
     }
 }
 
+// Why a call refuses, and the place that it names: of a word, of a line, or 0 where there is none.
+#[derive(Clone, Copy, PartialEq, Eq, Debug)]
+pub struct Refused {
+    pub why: Refusal,
+    pub place: usize,
+}
+
+impl From<Refusal> for Refused {
+    ghost from_gives = { λ why r. r ≡ record { why = why; place = 0 } };
+
+    fn from(why: Refusal) -> Refused {
+        Refused { why, place: 0 }
+    }
+}
+
 // The code is a number, 0 where nothing was refused: so `Contract` of every public call, the theorems of handover and C have it.
 #[derive(Clone, Copy, PartialEq, Eq, Debug)]
 pub struct Answer {

@@ -7,7 +7,7 @@ use Rattle.answers.specs.declared.Answer.{Answer}
 use Rattle.answers.specs.Refusals.{code_of}
 use Rattle.inner.specs.Inner.{answer_done}
 use Rattle.inner.specs.declared.Done.{Done}
-use Rattle.learning.specs.declared.Refused.{Refused}
+use Rattle.answers.specs.declared.Refused.{Refused}
 use Rattle.learning.specs.Learn.{Run, run_if, going, word_code, learn_step, learn_words, learn_start, learn_end, run_answer, run_book, run_sheet}
 
 -- what is answered for it: what was done, or a refusal with its place alone

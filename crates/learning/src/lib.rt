@@ -10,24 +10,9 @@ ghost use Rattle.inner.specs.Inner.{answer_done};
 ghost use Rattle.learning.specs.Learn.{word_code, reproduced, Learned};
 ghost use Rattle.learning.specs.Running.{answer_for, words_left, Fit, WordLearned, Through, Begun, Finished};
 
-use answers::{Answer, Refusal};
+use answers::{Answer, Refusal, Refused};
 use inner::Done;
 use panel::PanelSize;
-
-// Why learn refuses, and the place: of a word in its list, of a word in the book, or 0 before any word.
-#[derive(Clone, Copy, PartialEq, Eq, Debug)]
-struct Refused {
-    why: Refusal,
-    place: usize,
-}
-
-impl From<Refusal> for Refused {
-    ghost from_gives = { λ why r. r ≡ record { why = why; place = 0 } };
-
-    fn from(why: Refusal) -> Refused {
-        Refused { why, place: 0 }
-    }
-}
 
 // The word t may be taken into the book: it is a transition of the panel, and nothing there stands in its way.
 fn check_word(n: PanelSize, t: u32, book: &[u32], room: usize) -> Result<(), Refusal>

@@ -16,7 +16,7 @@ use Rattle.headers.specs.declared.Layout.{Layout}
 use Rattle.headers.specs.Verdicts.{Verdict}
 use Rattle.std.specs.Prelude.{Result, Ok, Err, IsErrAnd}
 use Rattle.answers.specs.Refusals.{code_of}
-use Rattle.answers.specs.declared.Refusal.{Refusal}
+use Rattle.answers.specs.declared.Refused.{Refused}
 use Rattle.headers.proofs.PlaceLaws.{bad_iff_place}
 use Rattle.headers.proofs.TypeLines.{untyped_faulty, same_or_untyped}
 use Rattle.reading.specs.Rows.{words_in, text_words}
@@ -45,8 +45,8 @@ module _ (lay : Layout) (t before after : List ℕ) (r : ReadAnswer) where
       record { answer = rw (← h, ← q, f) a; list = rw (← h, ← q, f) (e ∙ rw (w, s)) }
 
 -- what a `?` hands back is what was refused
-pub read_err : (P : List ℕ → ReadAnswer → Type 0) (after : List ℕ) (w : Refusal × ℕ) (r : Result (ℕ × ℕ) (Refusal × ℕ)) → IsErrAnd r (λ e. e ≡ w)
-    → P (replicate (length after) 0) (refusal (code_of w.0) w.1) → P (list_of r after) (answer_of r)
+pub read_err : (P : List ℕ → ReadAnswer → Type 0) (after : List ℕ) (w : Refused) (r : Result (ℕ × ℕ) Refused) → IsErrAnd r (λ e. e ≡ w)
+    → P (replicate (length after) 0) (refusal (code_of w.why) w.place) → P (list_of r after) (answer_of r)
 read_err P after w (Ok p) e h = absurd e
 read_err P after w (Err x) e h = rw e h
 

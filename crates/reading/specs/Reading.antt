@@ -2,7 +2,7 @@
 use Rattle.std.specs.Prelude.{ℕ, ◌+◌, ◌≡◌, ◌≤◌, ◌<◌, List, ◌++◌, cond, leb, length, take, replicate, Option, Some, None, Result, Ok, Err}
 use Rattle.table.specs.Surgery.{cleared_from, filled}
 use Rattle.answers.specs.Refusals.{code_of}
-use Rattle.answers.specs.declared.Refusal.{Refusal}
+use Rattle.answers.specs.declared.Refused.{Refused}
 use Rattle.headers.specs.Layouts.{recording}
 use Rattle.headers.specs.Verdicts.{judge_of}
 use Rattle.headers.specs.declared.Layout.{Layout}
@@ -26,12 +26,12 @@ abbrev pub refusal : ℕ → ℕ → ReadAnswer
 refusal code place = record { code = code; place = place; n = 0; count = 0 }
 
 -- the answer to what was read: the size and how many words, or why it is refused and where
-abbrev pub answer_of : Result (ℕ × ℕ) (Refusal × ℕ) → ReadAnswer
+abbrev pub answer_of : Result (ℕ × ℕ) Refused → ReadAnswer
 answer_of (Ok p) = record { code = 0; place = 0; n = p.0; count = p.1 }
-answer_of (Err w) = refusal (code_of w.0) w.1
+answer_of (Err w) = refusal (code_of w.why) w.place
 
 -- the list after it: 0 in every word beyond the words; all 0 where refused
-abbrev pub list_of : Result (ℕ × ℕ) (Refusal × ℕ) → List ℕ → List ℕ
+abbrev pub list_of : Result (ℕ × ℕ) Refused → List ℕ → List ℕ
 list_of (Ok p) list = cleared_from p.1 list
 list_of (Err w) list = replicate (length list) 0
 

@@ -8,7 +8,7 @@ ghost use Rattle.lines.specs.declared.Kind.TheVariants.{Recording};
 ghost use Rattle.reading.specs.Rows.{matches_of, rule_of, row_words, line_words, words_in};
 ghost use Rattle.reading.specs.Reading.{Puts, refusal, answer_of, list_of, ReadsLaid, Reads};
 
-use answers::Refusal;
+use answers::{Refusal, Refused};
 use headers::Layout;
 use lines::{Kind, Line, Lines, Masks, View};
 
@@ -91,21 +91,20 @@ fn fill(kind: Kind, text: &[u8], list: &mut [u32]) -> Option<usize>
 }
 
 // Reads a text of a layout as far as its words: the panel's size and how many they are, or why it is refused and where. `finish` makes the answer of it.
-pub fn read_words(
-    lay: Layout,
-    text: &[u8],
-    list: &mut [u32],
-) -> Result<(u32, usize), (Refusal, usize)>
+pub fn read_words(lay: Layout, text: &[u8], list: &mut [u32]) -> Result<(u32, usize), Refused>
     ensures read { ReadsLaid lay text.now list.old (list_of result list.new) (answer_of result) }
     ensures fits { IfOk result (λ p. p.1 ≤ length list.new) }
 {
-    let n = judging::judge(lay, text).map_err(|place| (Refusal::Faulty, place))?;
-    let count = fill(lay.kind, text, list).ok_or((Refusal::BookRoom, 0))?;
+    let n = judging::judge(lay, text).map_err(|place| Refused {
+        why: Refusal::Faulty,
+        place,
+    })?;
+    let count = fill(lay.kind, text, list).ok_or(Refusal::BookRoom)?;
     Ok((n, count))
 }
 
 // The answer to what was read, with zeros behind the words; all zeros if it is refused.
-pub fn finish(read: Result<(u32, usize), (Refusal, usize)>, list: &mut [u32]) -> ReadAnswer
+pub fn finish(read: Result<(u32, usize), Refused>, list: &mut [u32]) -> ReadAnswer
     requires { IfOk read (λ p. p.1 ≤ length list.old) }
     ensures answer { result ≡ answer_of read }
     ensures list { list.new ≡ list_of read list.old }
@@ -120,7 +119,7 @@ pub fn finish(read: Result<(u32, usize), (Refusal, usize)>, list: &mut [u32]) ->
                 count,
             }
         }
-        Err((why, place)) => {
+        Err(Refused { why, place }) => {
             table::clear(list);
             refused(why.code(), place)
         }

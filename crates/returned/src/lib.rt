@@ -5,12 +5,12 @@ ghost use Rattle.std.specs.Prelude.{◌≤◌, length, IfOk};
 ghost use Rattle.reading.specs.Reading.{answer_of, list_of};
 ghost use Rattle.returned.specs.Returned.{ReadsSheet};
 
-use answers::Refusal;
+use answers::{Refusal, Refused};
 use panel::PanelSize;
 use reading::ReadAnswer;
 
 // Reads a sheet as far as its words in order: refused with 11, 8 or 5, in this order. `reading::finish` makes the answer of it.
-fn read_rules(text: &[u8], words: &mut [u32]) -> Result<(u32, usize), (Refusal, usize)>
+fn read_rules(text: &[u8], words: &mut [u32]) -> Result<(u32, usize), Refused>
     ensures read { ReadsSheet text.now words.old (list_of result words.new) (answer_of result) }
     ensures fits { IfOk result (λ p. p.1 ≤ length words.new) }
 {
@@ -18,7 +18,7 @@ fn read_rules(text: &[u8], words: &mut [u32]) -> Result<(u32, usize), (Refusal, 
     let rules = &mut words[..count];
     sorting::order(rules);
     if !prime::is_good_sheet(PanelSize::of(n), rules) {
-        return Err((Refusal::Sheet, 0));
+        return Err(Refused::from(Refusal::Sheet));
     }
     Ok((n, count))
 }
