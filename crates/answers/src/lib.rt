@@ -8,19 +8,19 @@ ghost use Rattle.answers.specs.Refusals.{code_of};
 // Why a call refuses, in the order of the codes.
 #[derive(Clone, Copy, PartialEq, Eq, Debug)]
 pub enum Refusal {
-    Known,
-    PanelSize,
-    Counts,
-    Book,
-    Sheet,
-    Word,
-    Contradiction,
-    BookRoom,
-    SheetRoom,
-    Unreproduced,
-    Faulty,
-    TextRoom,
-    TooLong,
+    Known = 1,
+    PanelSize = 2,
+    Counts = 3,
+    Book = 4,
+    Sheet = 5,
+    Word = 6,
+    Contradiction = 7,
+    BookRoom = 8,
+    SheetRoom = 9,
+    Unreproduced = 10,
+    Faulty = 11,
+    TextRoom = 12,
+    TooLong = 13,
 }
 
 impl Refusal {
@@ -28,21 +28,7 @@ impl Refusal {
     pub fn code(self) -> u32
         ensures { result ≡ code_of self }
     {
-        match self {
-            Refusal::Known => 1,
-            Refusal::PanelSize => 2,
-            Refusal::Counts => 3,
-            Refusal::Book => 4,
-            Refusal::Sheet => 5,
-            Refusal::Word => 6,
-            Refusal::Contradiction => 7,
-            Refusal::BookRoom => 8,
-            Refusal::SheetRoom => 9,
-            Refusal::Unreproduced => 10,
-            Refusal::Faulty => 11,
-            Refusal::TextRoom => 12,
-            Refusal::TooLong => 13,
-        }
+        self as u32
     }
 }
 

@@ -1,31 +1,21 @@
 -- What the iterators over the lines of a text stand on: the first line, and the lines after it.
 use Prim.Native.Nat.{ℕ, ◌+◌, ◌-◌, ◌≤◌, ◌<◌}
-use mathlib.Core.Path.{◌≡◌, refl, sym, ◌∙◌, subst}
+use mathlib.Core.Path.{◌≡◌, refl, sym, subst}
 use mathlib.Core.List.{List, [], ◌∷◌}
 use mathlib.Core.Bool.{Bool, true, false, cond}
 use lib.Dec.{ltb}
 use lib.ListN.{length, take, drop, length-take, length-drop, drop_of_length-le}
 use borrow.Author.Tests.{ltb-false}
 use native.Mathlib.Omega.{arith}
-use native.Mathlib.Numerals.{unary_clauses}
-use Rattle.std.proofs.lemmas.Bool.Decides.{nat_tests}
-use Rattle.std.specs.Prelude.{◌==◌}
 use Rattle.std.specs.Iterator.{MakesProgress, item_count}
 use Rattle.std.proofs.Common.{Some}
 use Rattle.fields.specs.Bytes.{run}
 use Rattle.fields.specs.Texts.{lines_of, past_of}
 use Rattle.fields.specs.declared.Stretch.TheVariants.{Whole}
-use Rattle.fields.proofs.TextLaws.{line_at, rest_is}
+use Rattle.fields.proofs.TextLaws.{line_at}
+use Rattle.fields.specs.declared.Span.{Span}
+use Rattle.std.specs.Prelude.{map}
 use Rattle.lines.specs.Placed.{placed_from}
-
-pub no_lines : (s : List ℕ) → length s ≡ 0 → lines_of s ≡ []
-unfolding lines_of
-no_lines [] h = refl
-no_lines (b ∷ s) h = absurd (omega arith)
-
-pub first_line : (s : List ℕ) (e p : ℕ) → (length s == 0) ≡ false → e ≡ 0 + run Whole (drop 0 s) → p ≡ past_of e (length s)
-    → lines_of s ≡ take e s ∷ lines_of (take (length s - p) (drop p s))
-first_line s e p h he hp = line_at s 0 e (grind (arith, nat_tests)) he ∙ rw (rest_is, hp) (simp unary_clauses refl)
 
 -- ---- with their places
 
@@ -49,6 +39,13 @@ pub first_placed : (at : ℕ) (s : List ℕ) (e p : ℕ) → at ≤ length s →
     → placed_from at (lines_of (drop at s)) ≡ (record { from = at; to = e }, take (e - at) (drop at s)) ∷ placed_from p (lines_of (drop p s))
 first_placed at s e p h n he k hp =
     rw (line_at s at e (omega arith) he, placed_cons at (take (e - at) (drop at s)) (lines_of (drop (past_of e (length s)) s)) e (simp (length-take, length-drop) (omega arith)), placed_past e s, hp) refl
+
+-- ---- without their places
+
+pub places_gone : (at : ℕ) (ls : List (List ℕ)) → map (λ (p : Span × List ℕ). p.1) (placed_from at ls) ≡ ls
+unfolding placed_from
+places_gone at [] = refl
+places_gone at (l ∷ ls) = rw (places_gone (at + length l + 1) ls) refl
 
 -- ---- an item leaves fewer
 

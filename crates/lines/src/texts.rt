@@ -1,5 +1,5 @@
 // The lines of a text, one after another.
-ghost use Rattle.std.specs.Prelude.{◌≡◌, ℕ, ◌≤◌, List, drop, length};
+ghost use Rattle.std.specs.Prelude.{◌≡◌, ℕ, ◌≤◌, List, drop, length, map};
 ghost use Rattle.std.specs.Iterator.{YieldsFirstBy, YieldsFirstRef, item_count};
 ghost use Rattle.fields.specs.Texts.{lines_of};
 ghost use Rattle.fields.specs.declared.Span.{Span};
@@ -8,45 +8,8 @@ ghost use Rattle.lines.specs.Placed.{placed_from};
 use fields::Span;
 use std::marker::Model;
 
-// The lines of a text in turn: each ends at LF, which is no part of it, and the last may lack it. A contract reads it as the lines left.
-#[derive(Drop)]
-pub struct Lines<'a> {
-    rest: &'a [u8],
-}
-
-impl<'a> Model for Lines<'a> {
-    ghost Value = { List (List ℕ) };
-
-    ghost view = { λ s. lines_of s.rest.now };
-}
-
-impl<'a> Lines<'a> {
-    pub fn new(text: &'a [u8]) -> Lines<'a>
-        ensures { result ≡ lines_of text.now }
-    {
-        Lines { rest: text }
-    }
-}
-
-impl<'a> Iterator for Lines<'a> {
-    type Item = &'a [u8];
-
-    ghost next_gives = { YieldsFirstRef (λ lines. lines) };
-
-    ghost remaining = { item_count (λ lines. lines) };
-
-    fn next(&mut self) -> Option<&'a [u8]> {
-        let rest = self.rest;
-        if rest.is_empty() {
-            return None;
-        }
-        let end = fields::line_end(rest, 0);
-        self.rest = &rest[fields::past(end, rest.len())..];
-        Some(&rest[..end])
-    }
-}
-
-// The lines of a text in turn, each with where it stands.
+// The lines of a text in turn, each with where it stands: it ends at LF, which is no part of it, and the last line may lack it.
+// A contract reads it as the lines left.
 #[derive(Drop)]
 pub struct PlacedLines<'a> {
     text: &'a [u8],
@@ -85,5 +48,40 @@ impl<'a> Iterator for PlacedLines<'a> {
         let to = fields::line_end(text, from);
         self.at = fields::past(to, text.len());
         Some((Span { from, to }, &text[from..to]))
+    }
+}
+
+// The same without their places.
+#[derive(Drop)]
+pub struct Lines<'a> {
+    placed: PlacedLines<'a>,
+}
+
+impl<'a> Model for Lines<'a> {
+    ghost Value = { List (List ℕ) };
+
+    ghost view = { λ s. map (λ p. p.1) s.placed };
+}
+
+impl<'a> Lines<'a> {
+    pub fn new(text: &'a [u8]) -> Lines<'a>
+        ensures { result ≡ lines_of text.now }
+    {
+        Lines {
+            placed: PlacedLines::new(text),
+        }
+    }
+}
+
+impl<'a> Iterator for Lines<'a> {
+    type Item = &'a [u8];
+
+    ghost next_gives = { YieldsFirstRef (λ lines. lines) };
+
+    ghost remaining = { item_count (λ lines. lines) };
+
+    fn next(&mut self) -> Option<&'a [u8]> {
+        let (_, line) = self.placed.next()?;
+        Some(line)
     }
 }
