@@ -8,7 +8,7 @@ use native.Mathlib.Omega.{arith}
 use lib.Dec.{eqb}
 use lib.ListN.{length}
 use borrow.Author.Tests.{eq-eqb, eqb-true}
-use Rattle.table.proofs.Basics.{and_i}
+use Rattle.table.proofs.Basics.{and_i, or_r}
 use Rattle.fields.specs.Texts.{lines_of}
 use Rattle.names.specs.Names.{same_fields, names_in}
 use Rattle.names.proofs.Equal.{same_fields_self}
@@ -18,7 +18,7 @@ use Rattle.lines.specs.declared.Part.TheVariants.{Ins, Outs}
 use Rattle.lines.specs.declared.Line.{Line}
 use Rattle.lines.specs.declared.Line.TheVariants.{Empty, Sized, Named, Typed, Rows, Row, End, Fault}
 use Rattle.headers.specs.Layouts.{asks}
-use Rattle.headers.specs.Headers.{has_header, lacks, ready_of, fits_of, is_size, row_allowed, allowed_of, named, next_of, Point, allowed_by, next_by, allowed_at, next_at, fresh_state, fresh_point}
+use Rattle.headers.specs.Headers.{has_header, lacks, ready_of, fits_of, row_allowed, named, next_of, Point, allowed_by, next_by, allowed_at, next_at, fresh_state, fresh_point}
 use Rattle.headers.specs.Verdicts.{finish_of, judge_lines, judge_of}
 use Rattle.headers.specs.Accepted.{is_header, one, times, rows_in, HeaderLine, RowLine, EmptyLine, All, Text, Accepted}
 use Rattle.headers.specs.declared.Layout.{Layout}
@@ -26,13 +26,11 @@ use Rattle.headers.specs.declared.Header.{Header}
 use Rattle.headers.specs.declared.Header.TheVariants.{Size, Names, TypeWord, Count}
 use Rattle.headers.specs.declared.Seen.{Seen}
 use Rattle.headers.specs.declared.State.{State}
-use Rattle.std.specs.Prelude.{Ok, Err, Option, Some, None}
-use Rattle.std.specs.Option.{unwrap_or, ok_or}
+use Rattle.std.specs.Prelude.{Ok, Err}
 use Rattle.headers.proofs.Passing.{state_after, all_pass, pass_cons, pass_append, after_append, Stuck, pass_or_stuck}
 use Rattle.headers.proofs.Machine.{passes, after, judge_passing, judge_stuck, after_rows}
 use Rattle.headers.proofs.Fitting.{fits_i}
-use Rattle.headers.proofs.Seeing.{one_le, kind_self, header_self, has_next, ready_i, ready_e, open_e, open_i, header_open, end_ready, header_i, end_i, tally_next}
-use Rattle.headers.proofs.After.{given, allowed_state, pass_state, pass_next}
+use Rattle.headers.proofs.Seeing.{one_le, kind_self, header_self, has_next, ready_i, ready_e, open_i, header_i, end_i, tally_next}
 use Rattle.headers.proofs.Completing.{named_size, named_word, named_count}
 use Rattle.headers.proofs.Splitting.{CountsRows, Split, split_of}
 
@@ -45,28 +43,24 @@ good_or_bad n k e = let z : ◌≡◌ {A = ℕ} 0 1 = cc in omega arith
 pub record Finished (last : State) (n : ℕ) : Type 0 where
   pub ended : last.ended ≡ true
   pub counts : CountsRows last
-  pub size : last.size ≡ Some n
-
-ok_or_e : (size : Option ℕ) (k n : ℕ) → ok_or size k ≡ Ok n → size ≡ Some n
-ok_or_e None k n v = absurd (good_or_bad n k (sym v))
-ok_or_e (Some s) k n v = let q : s ≡ n = cc in ap Some q
+  pub size : last.size ≡ n
 
 finish_e : (st : State) (k n : ℕ) → finish_of st k ≡ Ok n → Finished st n
 unfolding finish_of
 finish_e st k n v = go _ _ st.ended refl st.seen.count refl (eqb st.want st.rows) refl v
   where
     go : (p q : ℕ) (e : Bool) → st.ended ≡ e → (c : Bool) → st.seen.count ≡ c → (w : Bool) → eqb st.want st.rows ≡ w
-        → cond e (cond c (cond w (ok_or st.size q) (Err p)) (ok_or st.size q)) (Err q) ≡ Ok n → Finished st n
+        → cond e (cond c (cond w (Ok st.size) (Err p)) (Ok st.size)) (Err q) ≡ Ok n → Finished st n
     go p q false e c f w g v = absurd (good_or_bad n q (sym v))
-    go p q true e false f w g v = record { ended = e; counts = λ c. absurd (false≢true (sym f ∙ c)); size = ok_or_e st.size q n v }
-    go p q true e true f true g v = record { ended = e; counts = λ c. eqb-true st.want st.rows g; size = ok_or_e st.size q n v }
+    go p q true e false f w g v = record { ended = e; counts = λ c. absurd (false≢true (sym f ∙ c)); size = cc }
+    go p q true e true f true g v = record { ended = e; counts = λ c. eqb-true st.want st.rows g; size = cc }
     go p q true e true f false g v = absurd (good_or_bad n p (sym v))
 
 pub finish_i : (st : State) (k n : ℕ) → Finished st n → finish_of st k ≡ Ok n
 unfolding finish_of
-finish_i st k n f = rw f.ended (go _ st.seen.count refl) ∙ ap (λ (size : Option ℕ). ok_or size k) f.size
+finish_i st k n f = rw f.ended (go _ st.seen.count refl) ∙ ap Ok f.size
   where
-    go : (p : ℕ) (c : Bool) → st.seen.count ≡ c → cond c (cond (eqb st.want st.rows) (ok_or st.size k) (Err p)) (ok_or st.size k) ≡ ok_or st.size k
+    go : (p : ℕ) (c : Bool) → st.seen.count ≡ c → cond c (cond (eqb st.want st.rows) (Ok st.size) (Err p)) (Ok st.size) ≡ Ok st.size
     go p true c = rw (eq-eqb st.want st.rows (f.counts c))
     go p false c = refl
 
@@ -96,35 +90,6 @@ asked_has lay s h l a = go (has_header s h) (asks lay s h) l a
     go false true l a = absurd (false≢true (sym l))
     go false false l a = absurd (false≢true a)
 
--- once `.i` stood there a size is given, and so it did before the end mark
-pub record Given (st : State) : Type 0 where
-  pub size : has_header st.seen (Size Ins) ≡ true → (s : ℕ) × (st.size ≡ Some s)
-  pub ended : st.ended ≡ true → has_header st.seen (Size Ins) ≡ true
-
-given_next : (lay : Layout) (st : State) (l : Line) (k : ℕ) → Given st → allowed_of lay st l ≡ true → Given (next_of st l k)
-given_next lay st Empty k g a = record { size = g.size; ended = g.ended }
-given_next lay st (Sized p n) k g a = record { size = λ e. (n, refl); ended = λ e. absurd (false≢true (sym (open_e st (header_open st (Size p) _ a)).0 ∙ e)) }
-given_next lay st (Named p n) k g a = record { size = λ e. (n, refl); ended = λ e. absurd (false≢true (sym (open_e st (header_open st (Names p) _ a)).0 ∙ e)) }
-given_next lay st (Typed t) k g a = record { size = g.size; ended = g.ended }
-given_next lay st (Rows v) k g a = record { size = g.size; ended = g.ended }
-given_next lay st (Row m) k g a = record { size = g.size; ended = g.ended }
-given_next lay st End k g a = record { size = g.size; ended = λ e. asked_has lay st.seen (Size Ins) (ready_e lay st.seen (end_ready lay st a) (Size Ins)) refl }
-given_next lay st Fault k g a = absurd (false≢true a)
-
-given_after : (lay : Layout) (ls : List (List ℕ)) (pt : Point) (k : ℕ) → Given pt.state → passes lay ls pt k ≡ true → Given (after ls pt k).state
-unfolding state_after next_at
-given_after lay [] pt k g h = g
-given_after lay (l ∷ ls) pt k g h =
-    given_after lay ls (next_by pt (line_of l) (names_in l) k) (k + 1)
-    (given_next lay pt.state (line_of l) k g (allowed_state lay pt (line_of l) (names_in l) (pass_state lay l ls pt k h)))
-    (pass_next lay l ls pt k h)
-
--- lines that pass and end give a size
-pub ended_size : (lay : Layout) (ls : List (List ℕ)) → passes lay ls fresh_point 1 ≡ true → (after ls fresh_point 1).state.ended ≡ true → (s : ℕ) × ((after ls fresh_point 1).state.size ≡ Some s)
-ended_size lay ls h e =
-    let g = given_after lay ls fresh_point 1 (record { size = λ b. absurd (false≢true b); ended = λ b. absurd (false≢true b) }) h in
-    g.size (g.ended e)
-
 -- both name lines or neither
 both_names : (lay : Layout) (s : Seen) → lacks lay s (Names Ins) ≡ false → lacks lay s (Names Outs) ≡ false → s.in_names ≡ s.out_names
 unfolding lacks
@@ -140,7 +105,7 @@ drop_none : (t m : ℕ) (b : Bool) → b ≡ false → one b + t ≡ m → t ≡
 drop_none t m true b e = absurd (false≢true (sym b))
 drop_none t m false b e = omega arith
 
-split_text : (lay : Layout) (ls : List (List ℕ)) (last : Point) (n : ℕ) → Split lay fresh_state last ls → given last.state ≡ n → Text lay n ls
+split_text : (lay : Layout) (ls : List (List ℕ)) (last : Point) (n : ℕ) → Split lay fresh_state last ls → last.state.size ≡ n → Text lay n ls
 split_text lay ls last n s z =
     let t : (h : Header) → times h s.top ≡ one (has_header last.state.seen h) = λ h. drop_none _ _ (has_header fresh_state.seen h) (fresh_none h) (s.tally h) in
     let r = ready_e lay last.state.seen s.ready in
@@ -165,14 +130,7 @@ pub good_text : (lay : Layout) (ls : List (List ℕ)) (n : ℕ) → judge_lines 
 good_text lay ls n h =
     let p = good_passes lay ls n h in
     let f : Finished (after ls fresh_point 1).state n = finish_e (after ls fresh_point 1).state (length ls + 1) n (sym (judge_passing lay ls fresh_point 1 p) ∙ h) in
-    split_text lay ls (after ls fresh_point 1) n (split_of lay ls 1 fresh_point refl refl p f.ended f.counts) (ap (λ (size : Option ℕ). unwrap_or size 0) f.size)
-
--- lines that pass and end, the number after `.p` being right, have a good verdict
-pub passing_good : (lay : Layout) (ls : List (List ℕ)) → passes lay ls fresh_point 1 ≡ true → (after ls fresh_point 1).state.ended ≡ true → CountsRows (after ls fresh_point 1).state
-    → (s : ℕ) × (judge_lines lay ls fresh_point 1 ≡ Ok s)
-passing_good lay ls p e c =
-    let z = ended_size lay ls p e in
-    (z.0, judge_passing lay ls fresh_point 1 p ∙ finish_i (after ls fresh_point 1).state (length ls + 1) z.0 (record { ended = e; counts = c; size = z.1 }))
+    split_text lay ls (after ls fresh_point 1) n (split_of lay ls 1 fresh_point refl refl p f.ended f.counts) f.size
 
 -- ---- a text gets a good verdict
 
@@ -180,15 +138,15 @@ passing_good lay ls p e c =
 pub record Fine (n r : ℕ) (ns : List (List ℕ)) (pt : Point) : Type 0 where
   pub going : pt.state.ended ≡ false
   pub none : pt.state.rows ≡ 0
-  pub size : (pt.state.size ≡ None) ⊎ (pt.state.size ≡ Some n)
-  pub sized : (p : Part) → has_header pt.state.seen (Size p) ≡ true → pt.state.size ≡ Some n
+  pub size : (pt.state.size ≡ 0) ⊎ (pt.state.size ≡ n)
+  pub sized : (p : Part) → has_header pt.state.seen (Size p) ≡ true → pt.state.size ≡ n
   pub wants : pt.state.seen.count ≡ true → pt.state.want ≡ r
   pub held : named pt.state.seen ≡ true → pt.held ≡ ns
 
-fits_both : (size : Option ℕ) (n : ℕ) → (size ≡ None) ⊎ (size ≡ Some n) → fits_of size n ≡ true
+fits_both : (s n : ℕ) → (s ≡ 0) ⊎ (s ≡ n) → fits_of s n ≡ true
 unfolding fits_of
-fits_both size n (inl e) = rw e refl
-fits_both size n (inr e) = rw e (eq-eqb n n refl)
+fits_both s n (inl e) = ap (λ (t : Bool). t || eqb s n) (eq-eqb s 0 e)
+fits_both s n (inr e) = or_r (eqb s 0) (eqb s n) (eq-eqb s n e)
 
 agrees_i : (t : Bool) (held own ns : List (List ℕ)) → (t ≡ true → held ≡ ns) → own ≡ ns → (not t || same_fields held own) ≡ true
 agrees_i true held own ns h e = rw (h refl, e) (same_fields_self ns)
@@ -203,8 +161,8 @@ fine_line lay n r ns pt (Sized q s) own k f p new = (
   record {
     going = f.going;
     none = f.none;
-    size = inr (ap Some p);
-    sized = λ x e. ap Some p;
+    size = inr p;
+    sized = λ x e. p;
     wants = λ e. f.wants (sym (has_next pt.state (Sized q s) k Count) ∙ e);
     held = λ e. f.held (sym (named_size pt.state.seen q) ∙ e);
   },
@@ -216,8 +174,8 @@ fine_line lay n r ns pt (Named q s) own k f p new = (
   record {
     going = f.going;
     none = f.none;
-    size = inr (ap Some p.0);
-    sized = λ x e. ap Some p.0;
+    size = inr p.0;
+    sized = λ x e. p.0;
     wants = λ e. f.wants (sym (has_next pt.state (Named q s) k Count) ∙ e);
     held = λ e. p.1;
   },
@@ -282,10 +240,7 @@ pub record Rowed (lay : Layout) (pt : Point) (k : ℕ) (middle : List (List ℕ)
   pub want : (after middle pt k).state.want ≡ pt.state.want
   pub ended : (after middle pt k).state.ended ≡ pt.state.ended
 
-is_size_i : (size : Option ℕ) (w n : ℕ) → size ≡ Some n → w ≡ n → is_size size w ≡ true
-is_size_i size w n e q = rw e (eq-eqb n w (sym q))
-
-row_line_lem : (lay : Layout) (n : ℕ) (pt : Point) (l : Line) (own : List (List ℕ)) (k : ℕ) → pt.state.ended ≡ false → ready_of lay pt.state.seen ≡ true → pt.state.size ≡ Some n → RowLine lay n l own
+row_line_lem : (lay : Layout) (n : ℕ) (pt : Point) (l : Line) (own : List (List ℕ)) (k : ℕ) → pt.state.ended ≡ false → ready_of lay pt.state.seen ≡ true → pt.state.size ≡ n → RowLine lay n l own
     → (allowed_by lay pt l own ≡ true) × ((next_of pt.state l k).seen ≡ pt.state.seen) × ((next_of pt.state l k).size ≡ pt.state.size) × ((next_of pt.state l k).want ≡ pt.state.want) × ((next_of pt.state l k).ended ≡ pt.state.ended)
 unfolding row_allowed allowed_by
 row_line_lem lay n pt l own k e r s (inl q) = rw q (refl, refl, refl, refl, refl)
@@ -293,9 +248,9 @@ row_line_lem lay n pt l own k e r s (inr q) =
     let m = q.0 in
     let p = q.2 in
     let st = pt.state in
-    rw q.1 (and_i _ _ (and_i _ _ (end_i lay st e r) (and_i _ _ (is_size_i st.size m.width n s p.width) (fits_i lay n m p))) refl, refl, refl, refl, refl)
+    rw q.1 (and_i _ _ (and_i _ _ (end_i lay st e r) (and_i _ _ (eq-eqb st.size m.width (s ∙ sym p.width)) (fits_i lay n m p))) refl, refl, refl, refl, refl)
 
-rows_pass : (lay : Layout) (n : ℕ) (middle : List (List ℕ)) (pt : Point) (k : ℕ) → pt.state.ended ≡ false → ready_of lay pt.state.seen ≡ true → pt.state.size ≡ Some n → All (RowLine lay n) middle → Rowed lay pt k middle
+rows_pass : (lay : Layout) (n : ℕ) (middle : List (List ℕ)) (pt : Point) (k : ℕ) → pt.state.ended ≡ false → ready_of lay pt.state.seen ≡ true → pt.state.size ≡ n → All (RowLine lay n) middle → Rowed lay pt k middle
 unfolding state_after all_pass allowed_at next_at
 rows_pass lay n [] pt k e r s a = record { passed = refl; seen = refl; size = refl; want = refl; ended = refl }
 rows_pass lay n (l ∷ middle) pt k e r s a =
@@ -378,7 +333,7 @@ module _ (lay : Layout) (n : ℕ) (ls : List (List ℕ)) (t : Text lay n ls) whe
   first_ready : ready_of lay first.state.seen ≡ true
   first_ready = ready_i lay first.state.seen (λ h. lacks_none_lem lay first.state.seen h (first_asked h))
 
-  first_size : first.state.size ≡ Some n
+  first_size : first.state.size ≡ n
   first_size = topped.fine.sized Ins (first_has (Size Ins) (t.sized Ins))
 
   abbrev at : ℕ

@@ -5,6 +5,7 @@ use mathlib.Core.List.{List, [], ◌∷◌, ◌++◌}
 use mathlib.Core.Logic.{◌⊎◌, inl, inr, ⊎_elim}
 use mathlib.Core.Bool.{Bool, true, false, not, ◌||◌, false≢true}
 use native.Mathlib.Omega.{arith}
+use lib.Dec.{eqb}
 use lib.ListN.{length}
 use borrow.Author.Tests.{eqb-true}
 use Rattle.table.proofs.Basics.{and_l, and_r, or_r, false_test}
@@ -13,8 +14,6 @@ use Rattle.names.proofs.Equal.{same_fields_is}
 use Rattle.lines.specs.Lines.{line_of, recounted}
 use Rattle.lines.specs.declared.Line.{Line}
 use Rattle.lines.specs.declared.Line.TheVariants.{Empty, Sized, Named, Typed, Rows, Row, End, Fault}
-use Rattle.std.specs.Prelude.{Option, Some, None}
-use Rattle.std.specs.Option.{unwrap_or}
 use Rattle.headers.specs.Headers.{has_header, fits_of, allowed_of, named, agrees_of, held_of, next_of, with_header, Point, allowed_by, next_by, allowed_at, next_at}
 use Rattle.headers.specs.declared.Seen.{Seen}
 use Rattle.headers.specs.Accepted.{is_header}
@@ -49,16 +48,18 @@ pass_next lay l ls pt k h = pass_more (allowed_at lay) next_at l ls pt k h
 
 -- ---- the size
 
--- the size that is given, or 0
-abbrev pub given : State → ℕ
-given st = unwrap_or st.size 0
-
-pub fits_is : (size : Option ℕ) (n : ℕ) → 1 ≤ unwrap_or size 0 → fits_of size n ≡ true → n ≡ unwrap_or size 0
+pub fits_is : (s n : ℕ) → 1 ≤ s → fits_of s n ≡ true → n ≡ s
 unfolding fits_of
-fits_is None n h f = absurd (omega arith)
-fits_is (Some s) n h f = sym (eqb-true s n f)
+fits_is s n h f = go (eqb s 0) refl f
+  where
+    go : (t : Bool) → eqb s 0 ≡ t → (t || eqb s n) ≡ true → n ≡ s
+    go true e f = absurd (no (eqb-true s 0 e))
+      where
+        no : s ≡ 0 → ⊥
+        no z = omega arith
+    go false e f = sym (eqb-true s n f)
 
-pub size_next : (lay : Layout) (st : State) (l : Line) (k : ℕ) → 1 ≤ given st → allowed_of lay st l ≡ true → given (next_of st l k) ≡ given st
+pub size_next : (lay : Layout) (st : State) (l : Line) (k : ℕ) → 1 ≤ st.size → allowed_of lay st l ≡ true → (next_of st l k).size ≡ st.size
 size_next lay st Empty k h a = refl
 size_next lay st (Sized p n) k h a = fits_is st.size n h (header_fits st (Size p) _ a)
 size_next lay st (Named p n) k h a = fits_is st.size n h (header_fits st (Names p) _ a)
@@ -69,7 +70,7 @@ size_next lay st End k h a = refl
 size_next lay st Fault k h a = refl
 
 -- a size that is given stays
-pub size_stays : (lay : Layout) (ls : List (List ℕ)) (pt : Point) (k : ℕ) → 1 ≤ given pt.state → passes lay ls pt k ≡ true → given (after ls pt k).state ≡ given pt.state
+pub size_stays : (lay : Layout) (ls : List (List ℕ)) (pt : Point) (k : ℕ) → 1 ≤ pt.state.size → passes lay ls pt k ≡ true → (after ls pt k).state.size ≡ pt.state.size
 unfolding state_after next_at
 size_stays lay [] pt k h p = refl
 size_stays lay (l ∷ ls) pt k h p =

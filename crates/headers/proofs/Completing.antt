@@ -4,11 +4,13 @@ use Prim.Native.Nat.{ℕ, ◌+◌, ◌≤◌}
 use mathlib.Core.Path.{◌≡◌, refl, sym, ◌∙◌, ap}
 use mathlib.Core.List.{List, [], ◌∷◌}
 use mathlib.Core.Logic.{◌⊎◌, inl, inr, ⊎_elim}
-use mathlib.Core.Bool.{Bool, true, false, not, ◌&&◌, ◌||◌, false≢true}
+use mathlib.Core.Bool.{Bool, true, false, cond, not, ◌&&◌, ◌||◌, false≢true}
 use native.Mathlib.Omega.{arith}
+use lib.Dec.{eqb}
 use lib.ListN.{length}
-use borrow.Author.Tests.{eq-eqb}
+use borrow.Author.Tests.{eq-eqb, eqb-false}
 use Rattle.table.proofs.Basics.{and_i, and_l, and_r, or_l, or_r, false_test}
+use Rattle.fields.proofs.FieldLaws.{ne_lt}
 use Rattle.fields.proofs.JoinLaws.{NoFeed, NoFeeds}
 use Rattle.names.specs.Names.{good_names, same_fields, names_in}
 use Rattle.names.proofs.Equal.{same_fields_self}
@@ -23,8 +25,6 @@ use Rattle.lines.proofs.BoundLaws.{line_ok, names_ok}
 use Rattle.lines.proofs.Written.{size_text, size_text_lem, size_no_feed, type_text, type_text_lem, type_no_feed, end_text, end_text_lem, end_no_feed}
 use Rattle.lines.proofs.NamesWritten.{name_text, name_text_lem, names_text, names_no_feed}
 use Rattle.headers.specs.Layouts.{same_header, asks}
-use Rattle.std.specs.Prelude.{Option, Some, None}
-use Rattle.std.specs.Option.{unwrap_or}
 use Rattle.headers.specs.Headers.{every_header, has_header, lacks, ready_of, open_of, fits_of, row_allowed, end_allowed, allowed_of, named, with_header, next_of, Point, allowed_by, next_by, allowed_at, next_at, fresh_point}
 use Rattle.headers.specs.declared.Layout.{Layout}
 use Rattle.headers.specs.declared.Header.{Header}
@@ -33,7 +33,7 @@ use Rattle.headers.specs.declared.Seen.{Seen}
 use Rattle.headers.specs.declared.State.{State}
 use Rattle.headers.proofs.Passing.{state_after, all_pass, pass_cons}
 use Rattle.headers.proofs.Machine.{passes, after}
-use Rattle.headers.proofs.After.{given, fits_is, allowed_state, pass_state, pass_next}
+use Rattle.headers.proofs.After.{fits_is, allowed_state, pass_state, pass_next}
 use Rattle.headers.proofs.Seeing.{kind_self, header_self, has_with, In, in_every, ready_i, ready_e, open_e, open_i, header_open, header_fits, header_i, end_ready, end_i}
 
 -- ---- what holds of each point that passing lines lead to
@@ -44,15 +44,10 @@ pub record Holds (held : List (List ℕ)) (size : ℕ) : Type 0 where
   pub number : length held ≡ size
   pub some : 1 ≤ size
 
--- a size that is given is 1 to 10
-abbrev pub Small : Option ℕ → Type 0
-Small None = Unit {0}
-Small (Some s) = (1 ≤ s) × (s ≤ 10)
-
 pub record Sound (lay : Layout) (pt : Point) : Type 0 where
-  pub small : Small pt.state.size
+  pub small : pt.state.size ≤ 10
   pub rowed : (pt.state.rows ≡ 0) ⊎ (ready_of lay pt.state.seen ≡ true)
-  pub holds : named pt.state.seen ≡ true → Holds pt.held (given pt.state)
+  pub holds : named pt.state.seen ≡ true → Holds pt.held pt.state.size
 
 row_end : (lay : Layout) (st : State) (m : Masks) → row_allowed lay st m ≡ true → end_allowed lay st ≡ true
 unfolding row_allowed
@@ -72,7 +67,7 @@ unfolding named
 named_count s = refl
 
 -- a size beside names is theirs
-holds_sized : (held : List (List ℕ)) (size : Option ℕ) (n : ℕ) → Holds held (unwrap_or size 0) → 1 ≤ n → fits_of size n ≡ true → Holds held n
+holds_sized : (held : List (List ℕ)) (size n : ℕ) → Holds held size → 1 ≤ n → fits_of size n ≡ true → Holds held n
 holds_sized held size n h o f = record { good = h.good; number = h.number ∙ sym (fits_is size n h.some f); some = o }
 
 -- a line that is read and allowed keeps a point sound
@@ -80,13 +75,13 @@ sound_state : (lay : Layout) (pt : Point) (x : Line) (ns : List (List ℕ)) (k :
 sound_state lay pt Empty ns k s o nk a = record { small = s.small; rowed = s.rowed; holds = s.holds }
 sound_state lay pt (Sized p n) ns k s o nk a =
     record {
-      small = o;
+      small = o.1;
       rowed = inl (open_e pt.state (header_open pt.state (Size p) _ a)).1;
       holds = λ d. holds_sized pt.held pt.state.size n (s.holds (sym (named_size pt.state.seen p) ∙ d)) o.0 (header_fits pt.state (Size p) _ a);
     }
 sound_state lay pt (Named p n) ns k s o nk a =
     record {
-      small = o;
+      small = o.1;
       rowed = inl (open_e pt.state (header_open pt.state (Names p) _ a)).1;
       holds = λ d. record { good = nk.0; number = nk.1; some = o.0 };
     }
@@ -163,22 +158,20 @@ pub record Supply (lay : Layout) (pt : Point) (h : Header) : Type 0 where
   pub beside : (k : ℕ) → Beside pt.state (next_of pt.state says k)
 
 -- the size that is given, or 1
-abbrev size_for : Option ℕ → ℕ
-size_for size = unwrap_or size 1
+abbrev size_for : ℕ → ℕ
+size_for s = cond (eqb s 0) 1 s
 
-size_for_lem : (size : Option ℕ) → Small size → (1 ≤ size_for size) × (size_for size ≤ 10) × (fits_of size (size_for size) ≡ true)
+size_for_lem : (s : ℕ) → s ≤ 10 → (1 ≤ size_for s) × (size_for s ≤ 10) × (fits_of s (size_for s) ≡ true)
 unfolding fits_of
-size_for_lem None h = (omega arith, omega arith, refl)
-size_for_lem (Some s) h = (h.0, h.1, eq-eqb s s refl)
+size_for_lem s h = go (eqb s 0) refl
+  where
+    go : (t : Bool) → eqb s 0 ≡ t → (1 ≤ cond t 1 s) × (cond t 1 s ≤ 10) × ((t || eqb s (cond t 1 s)) ≡ true)
+    go true e = (omega arith, omega arith, refl)
+    go false e = (ne_lt 0 s (omega arith) (λ z. eqb-false s 0 e (sym z)), h, eq-eqb s s refl)
 
-small_le : (size : Option ℕ) → Small size → unwrap_or size 0 ≤ 10
-small_le None h = omega arith
-small_le (Some s) h = h.1
-
-fits_same : (size : Option ℕ) (n : ℕ) → n ≡ unwrap_or size 0 → fits_of size n ≡ true
+fits_same : (s n : ℕ) → n ≡ s → fits_of s n ≡ true
 unfolding fits_of
-fits_same None n e = refl
-fits_same (Some s) n e = eq-eqb s n (sym e)
+fits_same s n e = or_r (eqb s 0) (eqb s n) (eq-eqb s n (sym e))
 
 lacks_new : (lay : Layout) (s : Seen) (h : Header) → lacks lay s h ≡ true → has_header s h ≡ false
 unfolding lacks
@@ -221,7 +214,7 @@ supply lay pt (Names p) s o e =
     record {
       line = name_text p pt.held;
       says = Named p (length pt.held);
-      reads = name_text_lem pt.held h.good p (omega (arith, h.number, h.some)) (omega (arith, h.number, small_le pt.state.size s.small));
+      reads = name_text_lem pt.held h.good p (omega (arith, h.number, h.some)) (omega (arith, h.number, s.small));
       clean = names_no_feed pt.held h.good p;
       allowed = and_i _ _
           (header_i pt.state (Names p) _ o (lacks_new lay pt.state.seen (Names p) e) (fits_same pt.state.size (length pt.held) h.number))

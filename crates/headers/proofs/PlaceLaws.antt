@@ -23,14 +23,13 @@ use Rattle.headers.specs.declared.Layout.{Layout}
 use Rattle.headers.specs.declared.Header.TheVariants.{Count}
 use Rattle.headers.specs.declared.State.{State}
 use Rattle.headers.specs.Verdicts.{Verdict}
-use Rattle.std.specs.Prelude.{Ok, Err, Option}
-use Rattle.std.specs.Option.{ok_or}
+use Rattle.std.specs.Prelude.{Ok, Err}
 use Rattle.headers.proofs.Passing.{state_after, all_pass, Stuck, pass_or_stuck, pass_first, pass_append, pass_others, after_append}
 use Rattle.headers.proofs.Machine.{passes, after, judge_passing, judge_stuck, after_rows, after_ended}
 use Rattle.headers.proofs.Seeing.{next_goes, has_next, count_line}
 use Rattle.headers.proofs.After.{CountStood, counted_at, count_in, alike_pass}
 use Rattle.headers.proofs.Completing.{sound_passing, leads_on}
-use Rattle.headers.proofs.Accepting.{ended_size, passing_good, good_or_bad, good_text, text_passes, good_iff_text}
+use Rattle.headers.proofs.Accepting.{good_or_bad, finish_i, good_text, text_passes, good_iff_text}
 
 -- ---- lines with another number after `.p`
 
@@ -100,17 +99,19 @@ passes_begins lay ls clean h =
     let lines : lines_of (text_of (ms ++ c.0)) ≡ ms ++ c.0 = lines_of_text (ms ++ c.0) (append_no_feeds ms c.0 (recount_clean r ls clean) c.1.clean) in
     let rows : last.state.rows ≡ r = c.1.beside.rows ∙ after_rows ms fresh_point 1 ∙ zero-add (rows_in ms) ∙ recount_rows r ls in
     let wants : Wants r last.state = λ d. c.1.beside.want ∙ recount_wants r ls fresh_point 1 (λ z. none z) (sym c.1.beside.count ∙ d) in
-    let whole : after (ms ++ c.0) fresh_point 1 ≡ last = after_append next_at ms c.0 fresh_point 1 in
-    let good : (s : ℕ) × (judge_lines lay (ms ++ c.0) fresh_point 1 ≡ Ok s) =
-    passing_good lay (ms ++ c.0) (pass_append (allowed_at lay) next_at ms c.0 fresh_point 1 p c.1.passing) (rw whole c.1.ended) (rw whole (λ d. wants d ∙ sym rows)) in
+    let good : judge_lines lay (lines_of (text_of (ms ++ c.0))) fresh_point 1 ≡ Ok last.state.size =
+    ap (λ (x : List (List ℕ)). judge_lines lay x fresh_point 1) lines
+    ∙ judge_passing lay (ms ++ c.0) fresh_point 1 (pass_append (allowed_at lay) next_at ms c.0 fresh_point 1 p c.1.passing)
+    ∙ ap (λ (q : Point). finish_of q.state (length (ms ++ c.0) + 1)) (after_append next_at ms c.0 fresh_point 1)
+    ∙ finish_i last.state _ last.state.size (record { ended = c.1.ended; counts = λ d. wants d ∙ sym rows; size = refl }) in
     record {
       text = text_of (ms ++ c.0);
       first = ms;
       others = c.0;
       lines = lines;
       alike = recount_alike r ls;
-      size = good.0;
-      accepted = good_text lay (lines_of (text_of (ms ++ c.0))) good.0 (rw lines good.1);
+      size = last.state.size;
+      accepted = good_text lay (lines_of (text_of (ms ++ c.0))) last.state.size good;
     }
   where
     none : false ≡ true → ◌≡◌ {A = ℕ} 0 (rows_in ls)
@@ -200,17 +201,12 @@ module _ (lay : Layout) (t : List ℕ) where
             wrong = λ q. eqb-false last.want last.rows w (d.count ∙ q ∙ sym rows_are);
           }
 
-      sized : last.ended ≡ true → Err k ≡ ok_or last.size (length (lines_of t) + 1) → ⊥
-      sized e v =
-          let z = ended_size lay (lines_of t) p e in
-          good_or_bad z.0 k (sym (v ∙ ap (λ (size : Option ℕ). ok_or size (length (lines_of t) + 1)) z.1))
-
       go : (e : Bool) → last.ended ≡ e → (c : Bool) → last.seen.count ≡ c → (w : Bool) → eqb last.want last.rows ≡ w
-          → Err k ≡ cond e (cond c (cond w (ok_or last.size (length (lines_of t) + 1)) (Err last.place)) (ok_or last.size (length (lines_of t) + 1))) (Err (length (lines_of t) + 1))
+          → Err k ≡ cond e (cond c (cond w (Ok last.size) (Err last.place)) (Ok last.size)) (Err (length (lines_of t) + 1))
           → EndMissing lay t k ⊎ WrongCount lay t k
       go false e c f w g v = inl (record { begins = passes_begins lay (lines_of t) (lines_no_feeds t) p; endless = sym ended_is ∙ e; number = cc })
-      go true e false f w g v = absurd (sized e v)
-      go true e true f true g v = absurd (sized e v)
+      go true e false f w g v = absurd (good_or_bad last.size k (sym v))
+      go true e true f true g v = absurd (good_or_bad last.size k (sym v))
       go true e true f false g v = inr (wrong e f g v)
 
   pub bad_place : (k : ℕ) → judge_of lay t ≡ Err k → Place lay t k

@@ -5,6 +5,7 @@ use mathlib.Core.List.{List, [], ◌∷◌, ◌++◌}
 use mathlib.Core.Logic.{inl, inr}
 use mathlib.Core.Bool.{true, false, false≢true}
 use native.Mathlib.Omega.{arith}
+use lib.Dec.{eqb}
 use borrow.Author.Tests.{eqb-true}
 use Rattle.table.proofs.Basics.{and_l, and_r, or_r}
 use Rattle.names.specs.Names.{names_in}
@@ -16,9 +17,7 @@ use Rattle.lines.specs.declared.Part.TheVariants.{Ins, Outs}
 use Rattle.lines.specs.declared.Line.{Line}
 use Rattle.lines.specs.declared.Line.TheVariants.{Empty, Sized, Named, Typed, Rows, Row, End, Fault}
 use Rattle.lines.proofs.BoundLaws.{line_ok}
-use Rattle.std.specs.Prelude.{Option, Some, None}
-use Rattle.std.specs.Option.{unwrap_or}
-use Rattle.headers.specs.Headers.{has_header, ready_of, open_of, is_size, end_allowed, row_allowed, allowed_of, named, with_header, next_of, Point, next_by, next_at}
+use Rattle.headers.specs.Headers.{has_header, ready_of, open_of, end_allowed, row_allowed, allowed_of, named, with_header, next_of, Point, next_by, next_at}
 use Rattle.headers.specs.Accepted.{is_row, one, times, rows_in, Fits, HeaderLine, RowLine, EmptyLine, All}
 use Rattle.headers.specs.declared.Layout.{Layout}
 use Rattle.headers.specs.declared.Header.{Header}
@@ -27,20 +26,16 @@ use Rattle.headers.specs.declared.Seen.{Seen}
 use Rattle.headers.specs.declared.State.{State}
 use Rattle.headers.proofs.Passing.{state_after}
 use Rattle.headers.proofs.Machine.{passes, after}
-use Rattle.headers.proofs.After.{given, allowed_state, pass_state, pass_next, size_stays, held_stays, after_counted}
+use Rattle.headers.proofs.After.{allowed_state, pass_state, pass_next, size_stays, held_stays, after_counted}
 use Rattle.headers.proofs.Fitting.{fits_e}
 use Rattle.headers.proofs.Seeing.{same_kind_lem, open_e, header_open, header_fits, end_going, end_ready, new_header, tally_next}
 
 -- a row that is allowed
-is_size_e : (size : Option ℕ) (w : ℕ) → is_size size w ≡ true → w ≡ unwrap_or size 0
-is_size_e None w e = absurd (false≢true e)
-is_size_e (Some s) w e = sym (eqb-true s w e)
-
-row_parts : (lay : Layout) (st : State) (m : Masks) → row_allowed lay st m ≡ true → (end_allowed lay st ≡ true) × Fits lay (given st) m
+row_parts : (lay : Layout) (st : State) (m : Masks) → row_allowed lay st m ≡ true → (end_allowed lay st ≡ true) × Fits lay st.size m
 unfolding row_allowed
 row_parts lay st m a =
     let r = and_r (end_allowed lay st) _ a in
-    (and_l (end_allowed lay st) _ a, fits_e lay (given st) m (is_size_e st.size m.width (and_l (is_size st.size m.width) _ r)) (and_r (is_size st.size m.width) _ r))
+    (and_l (end_allowed lay st) _ a, fits_e lay st.size m (sym (eqb-true st.size m.width (and_l (eqb st.size m.width) _ r))) (and_r (eqb st.size m.width) _ r))
 
 -- a line that is allowed: an empty one, a header before the first row and the end mark, a row, or the end mark
 pub data Stands (lay : Layout) (st : State) (l : Line) : Type 0 where
@@ -83,7 +78,7 @@ pub record Body (lay : Layout) (st last : State) (ls : List (List ℕ)) : Type 0
   pub mark : List ℕ
   pub rest : List (List ℕ)
   pub lines : ls ≡ middle ++ mark ∷ rest
-  pub rows : All (RowLine lay (given st)) middle
+  pub rows : All (RowLine lay st.size) middle
   pub ends : line_of mark ≡ End
   pub empty : All EmptyLine rest
   pub number : last.rows ≡ st.rows + rows_in middle
@@ -97,7 +92,7 @@ MoreBody lay ls k =
     → Body lay pt.state (after ls pt k).state ls
 
 -- an empty line, or a row, in front
-body_cons : (lay : Layout) (l : List ℕ) (ls : List (List ℕ)) (st next last : State) → RowLine lay (given st) (line_of l) (names_in l) → next.rows ≡ st.rows + one (is_row (view_of (line_of l)))
+body_cons : (lay : Layout) (l : List ℕ) (ls : List (List ℕ)) (st next last : State) → RowLine lay st.size (line_of l) (names_in l) → next.rows ≡ st.rows + one (is_row (view_of (line_of l)))
     → next.seen ≡ st.seen → next.size ≡ st.size → Body lay next last ls → Body lay st last (l ∷ ls)
 unfolding rows_in
 body_cons lay l ls st next last p r s z b =
@@ -106,7 +101,7 @@ body_cons lay l ls st next last p r s z b =
       mark = b.mark;
       rest = b.rest;
       lines = ap (λ (y : List (List ℕ)). l ∷ y) b.lines;
-      rows = (p, subst (λ (size : Option ℕ). All (RowLine lay (unwrap_or size 0)) b.middle) z b.rows);
+      rows = (p, subst (λ (n : ℕ). All (RowLine lay n) b.middle) z b.rows);
       ends = b.ends;
       empty = b.empty;
       number = omega (arith, b.number, r);
@@ -167,9 +162,9 @@ pub record Split (lay : Layout) (st : State) (last : Point) (ls : List (List ℕ
   pub mark : List ℕ
   pub rest : List (List ℕ)
   pub lines : ls ≡ top ++ (middle ++ mark ∷ rest)
-  pub headers : All (HeaderLine lay (given last.state) last.state.rows last.held) top
+  pub headers : All (HeaderLine lay last.state.size last.state.rows last.held) top
   pub tally : (h : Header) → one (has_header st.seen h) + times h top ≡ one (has_header last.state.seen h)
-  pub rows : All (RowLine lay (given last.state)) middle
+  pub rows : All (RowLine lay last.state.size) middle
   pub ends : line_of mark ≡ End
   pub empty : All EmptyLine rest
   pub number : rows_in middle ≡ last.state.rows
@@ -186,7 +181,7 @@ MoreSplit lay ls k =
 
 -- a header, or an empty line, in front
 split_cons : (lay : Layout) (l : List ℕ) (ls : List (List ℕ)) (st : State) (k : ℕ) (last : Point) (x : Line) → line_of l ≡ x → allowed_of lay st x ≡ true
-    → HeaderLine lay (given last.state) last.state.rows last.held x (names_in l) → Split lay (next_of st x k) last ls → Split lay st last (l ∷ ls)
+    → HeaderLine lay last.state.size last.state.rows last.held x (names_in l) → Split lay (next_of st x k) last ls → Split lay st last (l ∷ ls)
 unfolding times
 split_cons lay l ls st k last x e a p s =
     record {

@@ -1,5 +1,5 @@
 -- Which lines may follow which in a text of a layout: the state after some lines, what is missing there, and what it allows.
-use Rattle.std.specs.Prelude.{ℕ, Option, Some, None, zero, suc, ◌+◌, ◌^◌, List, [], ◌∷◌, Bool, true, false, cond, not, ◌&&◌, ◌||◌, eqb, ltb}
+use Rattle.std.specs.Prelude.{ℕ, zero, suc, ◌+◌, ◌^◌, List, [], ◌∷◌, Bool, true, false, cond, not, ◌&&◌, ◌||◌, eqb, ltb}
 use Rattle.names.specs.Names.{same_fields, names_in}
 use Rattle.lines.specs.Lines.{line_of}
 use Rattle.lines.specs.declared.Masks.{Masks}
@@ -66,14 +66,8 @@ unfoldable pub open_of : State → Bool
 open_of st = not st.ended && eqb st.rows 0
 
 -- two numbers of columns are equal: no size is given yet, or it is the same
-unfoldable pub fits_of : Option ℕ → ℕ → Bool
-fits_of None n = true
-fits_of (Some s) n = eqb s n
-
--- the size is given, and it is this
-abbrev pub is_size : Option ℕ → ℕ → Bool
-is_size None w = false
-is_size (Some s) w = eqb s w
+unfoldable pub fits_of : ℕ → ℕ → Bool
+fits_of size n = eqb size 0 || eqb size n
 
 -- a header, fitting or not: before the first row, and at most once
 unfoldable pub header_allowed : State → Header → Bool → Bool
@@ -85,7 +79,7 @@ end_allowed lay st = not st.ended && ready_of lay st.seen
 
 -- a row: where the end mark might stand, as wide as the size, and fitting the layout
 unfoldable pub row_allowed : Layout → State → Masks → Bool
-row_allowed lay st m = end_allowed lay st && (is_size st.size m.width && row_fits lay m)
+row_allowed lay st m = end_allowed lay st && (eqb st.size m.width && row_fits lay m)
 
 -- whether a line may stand where the lines before it led to this state, the names themselves left aside
 abbrev pub allowed_of : Layout → State → Line → Bool
@@ -135,8 +129,8 @@ with_header s h = record {
 -- the state after a line, number k
 abbrev pub next_of : State → Line → ℕ → State
 next_of st Empty k = st
-next_of st (Sized p n) k = record { seen = with_header st.seen (Size p); size = Some n; want = st.want; place = st.place; rows = st.rows; ended = st.ended }
-next_of st (Named p n) k = record { seen = with_header st.seen (Names p); size = Some n; want = st.want; place = st.place; rows = st.rows; ended = st.ended }
+next_of st (Sized p n) k = record { seen = with_header st.seen (Size p); size = n; want = st.want; place = st.place; rows = st.rows; ended = st.ended }
+next_of st (Named p n) k = record { seen = with_header st.seen (Names p); size = n; want = st.want; place = st.place; rows = st.rows; ended = st.ended }
 next_of st (Typed t) k = record { seen = with_header st.seen TypeWord; size = st.size; want = st.want; place = st.place; rows = st.rows; ended = st.ended }
 next_of st (Rows v) k = record { seen = with_header st.seen Count; size = st.size; want = v; place = k; rows = st.rows; ended = st.ended }
 next_of st (Row m) k = record { seen = st.seen; size = st.size; want = st.want; place = st.place; rows = st.rows + 1; ended = st.ended }
@@ -145,7 +139,7 @@ next_of st Fault k = st
 
 -- before the first line
 abbrev pub fresh_state : State
-fresh_state = record { seen = record { ins = false; outs = false; in_names = false; out_names = false; word = false; count = false }; size = None; want = 0; place = 0; rows = 0; ended = false }
+fresh_state = record { seen = record { ins = false; outs = false; in_names = false; out_names = false; word = false; count = false }; size = 0; want = 0; place = 0; rows = 0; ended = false }
 
 -- where a text is read: the state, and the names of the name line that stood there
 pub record Point : Type 0 where

@@ -1,6 +1,5 @@
 -- The verdict on a whole text: its lines in turn, numbered from 1, and then what can be judged only at the end.
-use Rattle.std.specs.Prelude.{ℕ, ◌+◌, List, [], ◌∷◌, cond, eqb, Result, Err}
-use Rattle.std.specs.Option.{ok_or}
+use Rattle.std.specs.Prelude.{ℕ, ◌+◌, List, [], ◌∷◌, cond, eqb, Result, Ok, Err}
 use Rattle.fields.specs.Texts.{lines_of}
 use Rattle.headers.specs.Headers.{Point, allowed_at, next_at, fresh_point}
 use Rattle.headers.specs.declared.Layout.{Layout}
@@ -10,10 +9,10 @@ use Rattle.headers.specs.declared.State.{State}
 abbrev pub Verdict : Type 0
 Verdict = Result ℕ ℕ
 
--- at the end of the text, k being the number after the last line: the end mark is required, before which both sizes stood, and `.p` is the number of rows
+-- at the end of the text, k being the number after the last line: the end mark is required, and `.p` is the number of rows
 unfoldable pub finish_of : State → ℕ → Verdict
 finish_of st k =
-    cond st.ended (cond st.seen.count (cond (eqb st.want st.rows) (ok_or st.size k) (Err st.place)) (ok_or st.size k)) (Err k)
+    cond st.ended (cond st.seen.count (cond (eqb st.want st.rows) (Ok st.size) (Err st.place)) (Ok st.size)) (Err k)
 
 -- the lines ls, numbered from k, after lines that led to a point: the first that is not allowed is faulty
 unfoldable pub judge_lines : Layout → List (List ℕ) → Point → ℕ → Verdict

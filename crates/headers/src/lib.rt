@@ -34,12 +34,13 @@ pub struct Seen {
     pub count: bool,
 }
 
-// What is known after some lines: which headers stood there; the size, where it is given; the number of `.p` and its line; how many
-// rows; whether the end mark stood there.
+// What is known after some lines: which headers stood there; the size, 0 where not given yet; the number of `.p` and its line;
+// how many rows; whether the end mark stood there.
 #[derive(Clone, Copy, PartialEq, Eq, Debug, Default)]
 pub struct State {
     pub seen: Seen,
-    pub size: Option<u32>,
+    // 0, and no Option: `row_allowed`, `next_of` and `finish_of` (headers/specs) say 0 where no size is given, and speak of every number.
+    pub size: u32,
     // The number and the place are read only where `seen` has `.p`: no Option, since `has_header` and `with_header` treat the six headers alike.
     pub want: u64,
     pub place: usize,

@@ -57,10 +57,10 @@ fn is_open(st: State) -> bool
 
 // No size is given yet, or it is the same.
 #[tactic(auto, unfolding(headers::specs::Headers::fits_of))]
-fn fits(size: Option<u32>, n: u32) -> bool
+fn fits(size: u32, n: u32) -> bool
     ensures { result ≡ fits_of size n }
 {
-    size.is_none_or(|s| s == n)
+    size == 0 || size == n
 }
 
 fn has_header(s: Seen, h: Header) -> bool
@@ -104,8 +104,7 @@ fn is_ready(lay: Layout, s: Seen) -> bool
     EVERY_HEADER.iter().all(|&h| !lacks_header(lay, s, h))
 }
 
-// The relay whose bit is the only one on; 10 if there is none: no Option, since the definition `only_on`, over which `row_fits` and the
-// words of a rule are stated, says 10.
+// The relay whose bit is the only one on; 10 if there is none.
 pub fn only_on(x: u32) -> u32
     ensures { result ≡ only_on x }
 {
@@ -142,7 +141,7 @@ fn end_allowed(lay: Layout, st: State) -> bool
 fn row_allowed(lay: Layout, st: State, m: Masks) -> bool
     ensures { result ≡ row_allowed lay st m }
 {
-    end_allowed(lay, st) && st.size == Some(m.width) && row_fits(lay, m)
+    end_allowed(lay, st) && st.size == m.width && row_fits(lay, m)
 }
 
 // What may stand where the lines before led to a state.
@@ -189,12 +188,12 @@ fn next(st: State, l: Line, k: usize) -> State
         Line::Empty | Line::Fault => st,
         Line::Sized(p, n) => State {
             seen: with_header(st.seen, Header::Size(p)),
-            size: Some(n),
+            size: n,
             ..st
         },
         Line::Named(p, n) => State {
             seen: with_header(st.seen, Header::Names(p)),
-            size: Some(n),
+            size: n,
             ..st
         },
         Line::Typed(_) => State {
@@ -246,7 +245,7 @@ fn finish(st: State, k: usize) -> Result<u32, usize>
     } else if st.seen.count && st.want != st.rows {
         Err(st.place)
     } else {
-        st.size.ok_or(k) // there is a size: both stood before the end mark
+        Ok(st.size)
     }
 }
 
