@@ -67,7 +67,7 @@ impl Answer {
     }
 }
 
-// A code with a place and counts; struck and added are 0.
+// A code with a place and counts; struck and added are 0. The code is a number here, as `Answer` has it; a refusal comes by `Answer::refused`.
 pub fn plain_answer(code: u32, place: usize, book_count: usize, sheet_count: usize) -> Answer
     ensures { result ≡ plain code place book_count sheet_count }
 {

@@ -20,7 +20,7 @@ pub enum Mark {
     Other,
 }
 
-// A kind of stretch: what `run_end` goes over.
+// A kind of stretch: what `run_end` goes over. No closure in its place: `run`, over which texts are defined, takes it as a value.
 #[derive(Clone, Copy, PartialEq, Eq, Debug)]
 pub enum Stretch {
     Gap,
@@ -37,7 +37,7 @@ pub struct Columns {
     pub dashes: u32,
 }
 
-// Where a field of a line stands; it is empty at the end of the line if there is none.
+// Where a stretch of bytes stands. Of a field that is not there it is empty, at the end of the line: so `Spans` and `SpanIs` say.
 #[derive(Clone, Copy, PartialEq, Eq, Debug)]
 pub struct Span {
     pub from: usize,

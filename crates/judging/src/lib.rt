@@ -104,7 +104,8 @@ fn is_ready(lay: Layout, s: Seen) -> bool
     EVERY_HEADER.iter().all(|&h| !lacks_header(lay, s, h))
 }
 
-// The relay whose bit is the only one on; 10 if there is none.
+// The relay whose bit is the only one on; 10 if there is none: no Option, since the definition `only_on`, over which `row_fits` and the
+// words of a rule are stated, says 10.
 pub fn only_on(x: u32) -> u32
     ensures { result ≡ only_on x }
 {

@@ -44,6 +44,7 @@ pub struct Masks {
     pub width: u32,
 }
 
+// `Fault` is a line too, and no `None`: the definitions of headers and layouts, and `line_of` itself, are over every line.
 #[derive(Clone, Copy, PartialEq, Eq, Debug)]
 pub enum Line {
     Empty,

@@ -83,6 +83,7 @@ fn field_number(s: &[u8], from: usize, k: usize) -> Span
     fields::field_at(s, i)
 }
 
+// (It begins as `names_span` does, whose contract says which names stand there, and not where.)
 // Where the name of a column stands in a name line: that many fields after the first.
 pub fn name_span(line: &[u8], column: usize) -> Span
     ensures { SpanIs line.now (name_span line.now column) result }

@@ -21,7 +21,8 @@ pub struct NameLine {
     pub at: Span,
 }
 
-// What a text says of names: both readers refuse it with 11, it has no name lines, or its name line.
+// What a text says of names: both readers refuse it with 11, it has no name lines, or its name line. Three cases, each of which leads on
+// differently, so neither an Option nor a Result.
 #[derive(Clone, Copy, PartialEq, Eq, Debug)]
 pub enum Naming {
     Refused,

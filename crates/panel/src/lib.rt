@@ -111,6 +111,7 @@ pub fn is_rule(n: PanelSize, w: u32) -> bool
     head_of(w) < n.relays() && p < states && m < states && p & m == 0
 }
 
+// That states are below 1,024 and relays below 10 stays a clause of the few functions that ask it: as numbers of C's they come with no type.
 #[tactic(auto, unfolding(crate::specs::Transitions::transition_word))]
 pub fn transition_word(i: u32, j: u32) -> u32
     requires { (i < 1024) × (j < 1024) }
@@ -185,7 +186,8 @@ pub fn candidate_on(w: u32, v: u32, i: u32) -> u32
     w + contact
 }
 
-// The contact that r, a rule of one head with b, has beyond b, as its bit in the word, where it is the only one; else 0.
+// The contact that r, a rule of one head with b, has beyond b, as its bit in the word, where it is the only one; else 0,
+// the empty mask, which whoever gathers masks joins in.
 #[tactic(auto, using(crate::proofs::Near::near_tests))]
 pub fn near_rule(b: u32, r: u32) -> u32
     requires { head r ≡ head b }

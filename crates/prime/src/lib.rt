@@ -47,7 +47,7 @@ fn is_antichain(sheet: &[u32]) -> bool
     requires { increasing sheet.now ≡ true }
     ensures { result ≡ antichain sheet.now }
 {
-    let mut left = sheet;
+    let mut left = sheet; // shrinks by a pattern, as the definition `antichain` goes
     while let [w, rest @ ..] = left {
         if is_narrowed(*w, rest) {
             return false;

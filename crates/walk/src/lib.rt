@@ -122,6 +122,8 @@ fn is_kept(n: PanelSize, a: &[u32], b: &[u32], w: u32) -> bool
     both_touch(a, b, w) && !(0..n.relays()).any(|v| is_smaller(a, b, w, drop_contact(w, v)))
 }
 
+// Counting and writing are apart: the filter that both go over has a closure in its type, and no function can hand that out.
+
 // How many words of the head h are kept. A head that one side lacks has none.
 #[tactic(auto, using(spans::proofs::Joining::head_none_left, spans::proofs::Joining::head_none_right))]
 fn count_head(n: PanelSize, h: u32, a: &[u32], b: &[u32]) -> usize
@@ -156,6 +158,8 @@ fn write_head(n: PanelSize, h: u32, a: &[u32], b: &[u32], out: &mut [u32]) -> us
 }
 
 // ---- join: of both sheets only the stretch of the head is looked at
+
+// That a sheet is good stays a clause, and so does that words increase: the slices are lent anew at each call.
 
 // How many rules the join of two good sheets has.
 #[tactic(auto, using(spans::proofs::Walking::counted_start, crate::proofs::Keeping::sorted))]
