@@ -328,9 +328,10 @@ module _ (n : ℕ) (small : n ≤ 10) (t : ℕ) (s : List ℕ) (good : good_shee
       pub second_can : Sweepable true n t (length z) have (take have z)
       second_can = rw h.same (sweepable true have (take have z) second)
 
-      pub both_done : (y : List ℕ) (r : ℕ) → Holds y r (length z) (swept true n t have (take have z)) → Holds y r room (take_sheet n s t)
-      both_done y r q = record {
-        is = q.is ∙ sweeping_end (swept true n t have (take have z)) (sweeping_all true have (take have z) second);
-        fits = q.fits;
-        same = q.same ∙ h.same;
+      -- w is y, which has it after both
+      pub both_done : (y : List ℕ) (r : ℕ) → Holds y r (length z) (swept true n t have (take have z)) → (w : List ℕ) → w ≡ y → Holds w r room (take_sheet n s t)
+      both_done y r q w e = record {
+        is = ap (take r) e ∙ q.is ∙ sweeping_end (swept true n t have (take have z)) (sweeping_all true have (take have z) second);
+        fits = rw e q.fits;
+        same = ap length e ∙ q.same ∙ h.same;
       }

@@ -7,6 +7,7 @@ use Rattle.panel.specs.Rules.{valid_rule}
 use Rattle.panel.specs.Transitions.{state, spared}
 use Rattle.prime.specs.Sheets.{take_sheet, struck_count, added_count}
 use Rattle.heirs.specs.Heirs.{heirs_of_all, heir_mask, picked}
+use Rattle.sheet.specs.declared.Table.{Table}
 use Rattle.sheet.specs.declared.Tally.{Tally}
 
 -- what a take reports: the rules of the old sheet absent from the new, and the reverse
@@ -73,3 +74,12 @@ unfoldable pub Sweepable : Bool → ℕ → ℕ → ℕ → ℕ → List ℕ →
 Sweepable all n t room zero tab = ⊤
 Sweepable all n t room (suc k) tab =
     ((s : List ℕ) (have : ℕ) → Holds s have room tab → Visitable all n t s have k) × Sweepable all n t room k (visited all n t (get_or tab k 0) tab)
+
+-- the rules of the table a: the first of its lent words
+abbrev pub rules_of : Table → List ℕ
+rules_of a = take a.have a.words.now
+
+-- the table a became b, whose rules are tab: the same lent words, and as many
+pub record Became (a : Table) (tab : List ℕ) (b : Table) : Type 0 where
+  pub same_reference : b.words.ghost_name ≡ a.words.ghost_name
+  pub holds : Holds b.words.now b.have (length a.words.now) tab

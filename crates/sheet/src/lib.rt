@@ -10,7 +10,7 @@ ghost use Rattle.panel.specs.Transitions.{state, spared};
 ghost use Rattle.panel.specs.Contacts.{candidate};
 ghost use Rattle.prime.specs.Sheets.{good_sheet, fresh_sheet, take_sheet};
 ghost use Rattle.heirs.specs.Heirs.{heir_mask, picked};
-ghost use Rattle.sheet.specs.Taking.{tally_of, Tallying, on_count, FirstOn, planted, visited, swept, Plantable, Visitable, Sweepable};
+ghost use Rattle.sheet.specs.Taking.{tally_of, Tallying, on_count, FirstOn, planted, visited, swept, Plantable, Visitable, Sweepable, rules_of, Became};
 
 use panel::PanelSize;
 
@@ -55,32 +55,84 @@ pub fn count_changes(sheet: &[u32], n: PanelSize, t: u32) -> Tally
     so
 }
 
-// From here on `have` words of the sheet are the table. The two stay apart: a struct of both would hold a `&mut`, and each contract would have
-// to say besides that it is still this slice.
-
-// The candidate of b on the relay v goes into its place, if the mask has v.
-fn plant_one(sheet: &mut [u32], have: usize, v: u32, i: u32, b: u32, mask: u32) -> usize
-    requires { (v < 10) × (b < 16777216) × (have ≤ length sheet.old) × (increasing (take have sheet.old) ≡ true) × (length (cond (on v mask) (insert (candidate b v i) (take have sheet.old)) (take have sheet.old)) ≤ length sheet.old) }
-    ensures { Holds sheet.new result (length sheet.old) (cond (on v mask) (insert (candidate b v i) (take have sheet.old)) (take have sheet.old)) }
-{
-    if panel::is_on(v, mask) {
-        let c = panel::candidate_on(b, v, i);
-        table::insert_sorted(sheet, have, c);
-        return have + 1;
-    }
-    have
+// The lent words of a sheet, of which the first `have` are the table.
+#[derive(Drop)]
+struct Table<'a> {
+    words: &'a mut [u32],
+    have: usize,
 }
 
-// The candidates of b on the relays of the mask go into their places.
-fn plant(sheet: &mut [u32], count: usize, n: PanelSize, i: u32, b: u32, mask: u32) -> usize
-    requires { (b < 16777216) × (count ≤ length sheet.old) × Plantable n mask b i (take count sheet.old) (length sheet.old) }
-    ensures { Holds sheet.new result (length sheet.old) (insert_all (picked n mask b i) (take count sheet.old)) }
-{
-    let mut have = count;
-    for v in 0..n.relays() {
-        have = plant_one(sheet, have, v, i, b, mask);
+impl<'a> Table<'a> {
+    fn rules(&self) -> &[u32]
+        requires { self.now.have ≤ length self.now.words.now }
+        ensures { result.now ≡ rules_of self.now }
+    {
+        &self.words[..self.have]
     }
-    have
+
+    // The candidate of b on the relay v goes into its place, if the mask has v.
+    fn plant_one(&mut self, v: u32, i: u32, b: u32, mask: u32)
+        requires { (v < 10) × (b < 16777216) × (self.old.have ≤ length self.old.words.now) × (increasing (rules_of self.old) ≡ true) × (length (cond (on v mask) (insert (candidate b v i) (rules_of self.old)) (rules_of self.old)) ≤ length self.old.words.now) }
+        ensures { Became self.old (cond (on v mask) (insert (candidate b v i) (rules_of self.old)) (rules_of self.old)) self.new }
+    {
+        if panel::is_on(v, mask) {
+            let c = panel::candidate_on(b, v, i);
+            table::insert_sorted(self.words, self.have, c);
+            self.have += 1;
+        }
+    }
+
+    // The candidates of b on the relays of the mask go into their places.
+    fn plant(&mut self, n: PanelSize, i: u32, b: u32, mask: u32)
+        requires { (b < 16777216) × (self.old.have ≤ length self.old.words.now) × Plantable n mask b i (rules_of self.old) (length self.old.words.now) }
+        ensures { Became self.old (insert_all (picked n mask b i) (rules_of self.old)) self.new }
+    {
+        for v in 0..n.relays() {
+            self.plant_one(v, i, b, mask);
+        }
+    }
+
+    // The rule at a place goes, and its candidates on the relays of the mask come. The first of them takes over its room, so that only the
+    // words between the two places move.
+    fn replant(&mut self, at: usize, n: PanelSize, i: u32, mask: u32)
+        requires { (get_or self.old.words.now at 0 < 16777216) × (at < self.old.have) × (self.old.have ≤ length self.old.words.now) × (increasing (rules_of self.old) ≡ true) × Plantable n mask (get_or self.old.words.now at 0) i (remove (get_or self.old.words.now at 0) (rules_of self.old)) (length self.old.words.now) }
+        ensures { Became self.old (planted n mask (get_or self.old.words.now at 0) i (rules_of self.old)) self.new }
+    {
+        let b = self.words[at];
+        let Some(u) = first_on(n, mask) else {
+            table::remove_at(self.words, self.have, at);
+            self.have -= 1;
+            return;
+        };
+        let c = panel::candidate_on(b, u, i);
+        table::replace_at(self.words, self.have, at, c);
+        self.plant(n, i, b, mask - panel::power(u));
+    }
+
+    // The rule at a place is visited: it stays, or gives way to its heirs. A bool says which sweep it is: the definition `visited` takes one.
+    fn visit(&mut self, at: usize, n: PanelSize, t: u32, all: bool)
+        requires { Visitable all n t self.old.words.now self.old.have at }
+        ensures { Became self.old (visited all n t (get_or self.old.words.now at 0) (rules_of self.old)) self.new }
+    {
+        let b = self.words[at];
+        if panel::is_spared(t, b) {
+            return;
+        }
+        let mask = heirs_of(self.rules(), n, t, b);
+        if goes(all, mask) {
+            self.replant(at, n, panel::state_of(t), mask);
+        }
+    }
+
+    // The rules of the table are visited, from the last to the first. A bool, as in `visit`: the definition `swept` takes one.
+    fn sweep(&mut self, n: PanelSize, t: u32, all: bool)
+        requires { (self.old.have ≤ length self.old.words.now) × Sweepable all n t (length self.old.words.now) self.old.have (rules_of self.old) }
+        ensures { Became self.old (swept all n t self.old.have (rules_of self.old)) self.new }
+    {
+        for at in (0..self.have).rev() {
+            self.visit(at, n, t, all);
+        }
+    }
 }
 
 // The first relay below n that is on in the mask.
@@ -90,55 +142,11 @@ fn first_on(n: PanelSize, mask: u32) -> Option<u32>
     (0..n.relays()).find(|&v| panel::is_on(v, mask))
 }
 
-// The rule at a place goes, and its candidates on the relays of the mask come. The first of them takes over its room, so that only the
-// words between the two places move.
-fn replant(sheet: &mut [u32], have: usize, at: usize, n: PanelSize, i: u32, mask: u32) -> usize
-    requires { (get_or sheet.old at 0 < 16777216) × (at < have) × (have ≤ length sheet.old) × (increasing (take have sheet.old) ≡ true) × Plantable n mask (get_or sheet.old at 0) i (remove (get_or sheet.old at 0) (take have sheet.old)) (length sheet.old) }
-    ensures { Holds sheet.new result (length sheet.old) (planted n mask (get_or sheet.old at 0) i (take have sheet.old)) }
-{
-    let b = sheet[at];
-    let Some(u) = first_on(n, mask) else {
-        table::remove_at(sheet, have, at);
-        return have - 1;
-    };
-    let c = panel::candidate_on(b, u, i);
-    table::replace_at(sheet, have, at, c);
-    plant(sheet, have, n, i, b, mask - panel::power(u))
-}
-
 // A hit rule goes now: all of them do, or it has no heir.
 fn goes(all: bool, mask: u32) -> bool
     ensures { result ≡ (all || eqb mask 0) }
 {
     all || mask == 0
-}
-
-// The rule at a place is visited: it stays, or gives way to its heirs.
-fn visit(sheet: &mut [u32], have: usize, at: usize, n: PanelSize, t: u32, all: bool) -> usize
-    requires { Visitable all n t sheet.old have at }
-    ensures { Holds sheet.new result (length sheet.old) (visited all n t (get_or sheet.old at 0) (take have sheet.old)) }
-{
-    let b = sheet[at];
-    if panel::is_spared(t, b) {
-        return have;
-    }
-    let mask = heirs_of(&sheet[..have], n, t, b);
-    if !goes(all, mask) {
-        return have;
-    }
-    replant(sheet, have, at, n, panel::state_of(t), mask)
-}
-
-// The rules of the table are visited, from the last to the first.
-fn sweep(sheet: &mut [u32], count: usize, n: PanelSize, t: u32, all: bool) -> usize
-    requires { (count ≤ length sheet.old) × Sweepable all n t (length sheet.old) count (take count sheet.old) }
-    ensures { Holds sheet.new result (length sheet.old) (swept all n t count (take count sheet.old)) }
-{
-    let mut have = count;
-    for at in (0..count).rev() {
-        have = visit(sheet, have, at, n, t, all);
-    }
-    have
 }
 
 // The first count words are a good sheet, and there is room for the new one: the new sheet stands in its place. A sweep from the end
@@ -147,8 +155,13 @@ pub fn take_rules(sheet: &mut [u32], count: usize, n: PanelSize, t: u32) -> usiz
     requires { (count ≤ length sheet.old) × (good_sheet n (take count sheet.old) ≡ true) × (length (take_sheet n (take count sheet.old) t) ≤ length sheet.old) }
     ensures { Holds sheet.new result (length sheet.old) (take_sheet n (take count sheet.old) t) }
 {
-    let have = sweep(sheet, count, n, t, false);
-    sweep(sheet, have, n, t, true)
+    let mut table = Table {
+        words: sheet,
+        have: count,
+    };
+    table.sweep(n, t, false);
+    table.sweep(n, t, true);
+    table.have
 }
 
 // The fresh sheet: n rules with empty bodies, over the front of the slice.
