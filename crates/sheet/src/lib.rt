@@ -15,7 +15,7 @@ ghost use Rattle.sheet.specs.Taking.{tally_of, Tallying, on_count, FirstOn, plan
 use panel::PanelSize;
 
 // What a take strikes and adds.
-#[derive(Clone, Copy, PartialEq, Eq, Debug)]
+#[derive(Clone, Copy, PartialEq, Eq, Debug, Default)]
 pub struct Tally {
     pub struck: usize,
     pub added: usize,
@@ -42,10 +42,7 @@ pub fn count_changes(sheet: &[u32], n: PanelSize, t: u32) -> Tally
     requires { good_sheet n sheet.now ≡ true }
     ensures { result ≡ tally_of n sheet.now t }
 {
-    let mut so = Tally {
-        struck: 0,
-        added: 0,
-    };
+    let mut so = Tally::default();
     for &b in sheet {
         if !panel::is_spared(t, b) {
             so.struck += 1;
@@ -55,7 +52,8 @@ pub fn count_changes(sheet: &[u32], n: PanelSize, t: u32) -> Tally
     so
 }
 
-// The lent words of a sheet, of which the first `have` are the table.
+// The lent words of a sheet, of which the first `have` are the table. That these are no more than there are stands in the contracts: tried as
+// a ghost field, it is refused as an import cycle, since a struct with one imports all specs of its file, and `Taking` names the struct.
 #[derive(Drop)]
 struct Table<'a> {
     words: &'a mut [u32],
@@ -63,6 +61,7 @@ struct Table<'a> {
 }
 
 impl<'a> Table<'a> {
+    // The words of the table.
     fn rules(&self) -> &[u32]
         requires { self.now.have ≤ length self.now.words.now }
         ensures { result.now ≡ rules_of self.now }
