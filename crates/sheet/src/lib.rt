@@ -164,6 +164,7 @@ pub fn take_rules(sheet: &mut [u32], count: usize, n: PanelSize, t: u32) -> usiz
 }
 
 // The fresh sheet: n rules with empty bodies, over the front of the slice.
+// By index: once a `zip` over `iter_mut` is over, a proof knows nothing of the words (tried: `returns` stays open; std's LIBRARY.md says so).
 pub fn write_fresh(sheet: &mut [u32], n: PanelSize)
     requires { n ≤ length sheet.old }
     ensures { sheet.new ≡ fresh_sheet n ++ drop n sheet.old }
