@@ -13,18 +13,11 @@ use Rattle.std.specs.declared.iter.Take.{Take}
 use Rattle.fields.specs.declared.Fields.{Fields}
 use Rattle.names.specs.Names.{spaced}
 use Rattle.writing.specs.TableText.{ilb, ob, name_text, name_lines}
-use Rattle.writing.specs.Writing.{Wrote, names_length}
+use Rattle.writing.specs.Writing.{Wrote, names_left, names_length}
 use Rattle.writing.specs.declared.Page.{Page}
 use Rattle.writing.proofs.PutLaws.{wrote_none, wrote_then, wrote_line, line_length}
 
 -- ---- the first fields of a line, as an iterator takes them
-
--- what it has left
-abbrev pub names_left : Take Fields → List (List ℕ)
-names_left it = take (take_count it) (fields_left (take_source it))
-
-pub left_first : {it taken : Take Fields} {fields : Fields} {n : ℕ} (names : List ℕ) → it ≡ taken → take_source taken ≡ fields → fields_left fields ≡ fields_in names → take_count taken ≡ n → names_left it ≡ take n (fields_in names)
-left_first names g e h k = rw (g, e, h, k)
 
 pub left_next : (s t : Take Fields) (w : List ℕ) → fields_left (take_source s) ≡ w ∷ fields_left (take_source t) → take_count t + 1 ≡ take_count s → names_left s ≡ w ∷ names_left t
 left_next s t w e k = rw (e, ← k, add-one)

@@ -1,9 +1,13 @@
 -- What writing a sheet answers, and what it leaves in the lent bytes.
 use Rattle.std.specs.Prelude.{ℕ, ◌+◌, ◌*◌, ◌≡◌, List, [], ◌∷◌, ◌++◌, Bool, cond, not, ltb, length, take, drop, ◌≤◌, Result, Ok, Err}
+use Rattle.std.specs.Iterator.Adapters.{take_source, take_count}
+use Rattle.std.specs.declared.iter.Take.{Take}
 use Rattle.answers.specs.Answers.{refuse, plain, if_done}
 use Rattle.answers.specs.Refusals.{code_of}
 use Rattle.answers.specs.declared.Refusal.{Refusal}
 use Rattle.fields.specs.Decimals.{decimal}
+use Rattle.fields.specs.Fields.{fields_left}
+use Rattle.fields.specs.declared.Fields.{Fields}
 use Rattle.names.specs.Names.{spaced}
 use Rattle.naming.specs.Columns.{names_for}
 use Rattle.panel.specs.Masks.{panel_size}
@@ -32,6 +36,10 @@ pub record Wrote (p : Page) (s : List ℕ) (q : Page) : Type 0 where
   pub room : p.at + length s ≤ length p.out.now
   pub long : length q.out.now ≡ length p.out.now
   pub put : Put p.out.now p.at s q.out.now q.at
+
+-- the names that an iterator over the first fields of a line has left
+abbrev pub names_left : Take Fields → List (List ℕ)
+names_left it = take (take_count it) (fields_left (take_source it))
 
 -- how long a line `.p k` is, where there is one
 unfoldable pub count_length : Bool → ℕ → ℕ

@@ -1,17 +1,19 @@
 // Writing a table of words as text, and a sheet as such a table: the codes in order, then the bytes.
 #![tactic(auto)]
 
-ghost use Rattle.std.specs.Prelude.{◌≡◌, ◌∷◌, [], ◌+◌, ◌*◌, ◌^◌, ◌≤◌, ◌<◌, leb, length, take, IfOk};
+ghost use Rattle.std.specs.Prelude.{◌≡◌, ℕ, List, ◌∷◌, [], ◌+◌, ◌*◌, ◌^◌, ◌≤◌, ◌<◌, leb, length, take, IfOk};
 ghost use Rattle.fields.specs.Decimals.{decimal};
 ghost use Rattle.fields.specs.Fields.{fields_in};
 ghost use Rattle.names.specs.Names.{spaced};
 ghost use Rattle.writing.specs.TableText.{body_byte, head_byte, column_byte, columns, row_text, rows_text, header_text, name_text, name_lines, type_text, count_text, table_text};
 ghost use Rattle.answers.specs.Refusals.{refusal_code};
-ghost use Rattle.writing.specs.Writing.{Room, Wrote, count_length, names_length, text_length, write_code, write_answer, WritesNamed, Writes};
+ghost use Rattle.writing.specs.Writing.{Room, Wrote, count_length, names_left, names_length, text_length, write_code, write_answer, WritesNamed, Writes};
 
 use answers::{Answer, Refusal};
 use fields::Fields;
 use panel::PanelSize;
+use std::iter::Take;
+use std::marker::Model;
 
 // The common numbers, and the length of the text.
 #[derive(Clone, Copy, PartialEq, Eq, Debug)]
@@ -34,6 +36,39 @@ pub struct Table {
     pub counted: bool,
     pub ins: Column,
     pub outs: Column,
+}
+
+// The first `count` fields of a line, as the names of the columns. No `Copy`: a model with a lifetime has none, so functions take it by `&`.
+#[derive(Drop)]
+struct Names<'a> {
+    line: &'a [u8],
+    count: u32,
+}
+
+impl<'a> Model for Names<'a> {
+    ghost Value = { List (List ℕ) };
+
+    ghost view = { λ s. take s.count (fields_in s.line.now) };
+}
+
+impl<'a> Names<'a> {
+    fn each(&self) -> Take<Fields<'a>>
+        ensures items { names_left result ≡ self.now }
+        ensures few { length (spaced self.now) < 2 ^ 64 }
+    {
+        Fields::new(self.line).take(self.count as usize)
+    }
+
+    // How many bytes they are, each after one space.
+    fn spaced_length(&self) -> usize
+        ensures { result ≡ length (spaced self.now) }
+    {
+        let mut sum = 0;
+        for name in self.each() {
+            sum += 1 + name.len();
+        }
+        sum
+    }
 }
 
 // Lent bytes, and how many of them are written.
@@ -76,7 +111,7 @@ impl<'a> Page<'a> {
         self.at = end;
     }
 
-    // A number in decimal: the digits of a tenth of it, and then the last. By recursion, as the definition goes: the first digit is known last.
+    // A number in decimal. By recursion, as `decimal` of fields/specs/Decimals is defined: the kit's `{}` is over std's own `decimal`, and four lines are plainer than a lemma that joins the two.
     pub fn number(&mut self, v: usize)
         requires { Room self.old (decimal v) }
         ensures { Wrote self.old (decimal v) self.new }
@@ -98,38 +133,38 @@ impl<'a> Page<'a> {
         self.byte(b'\n');
     }
 
-    // The first n fields, each after one space.
-    fn spaced(&mut self, names: &[u8], n: u32)
-        requires { Room self.old (spaced (take n (fields_in names.now))) }
-        ensures { Wrote self.old (spaced (take n (fields_in names.now))) self.new }
+    // Each name after one space.
+    fn spaced(&mut self, names: &Names)
+        requires { Room self.old (spaced names.now) }
+        ensures { Wrote self.old (spaced names.now) self.new }
     {
-        for name in Fields::new(names).take(n as usize) {
+        for name in names.each() {
             self.byte(b' ');
             self.bytes(name);
         }
     }
 
-    // A name line: its keyword and the first n fields.
+    // A name line: its keyword and the names.
     #[tactic(auto, using(crate::proofs::NameLines::name_length, crate::proofs::NameLines::wrote_names))]
-    fn names(&mut self, key: &[u8], names: &[u8], n: u32)
-        requires { Room self.old (name_text key.now (take n (fields_in names.now))) }
-        ensures { Wrote self.old (name_text key.now (take n (fields_in names.now))) self.new }
+    fn names(&mut self, key: &[u8], names: &Names)
+        requires { Room self.old (name_text key.now names.now) }
+        ensures { Wrote self.old (name_text key.now names.now) self.new }
     {
         self.bytes(key);
-        self.spaced(names, n);
+        self.spaced(names);
         self.byte(b'\n');
     }
 
     // Both name lines, or nothing where there are no names.
-    fn name_lines(&mut self, names: &[u8], n: u32)
-        requires { Room self.old (name_lines (take n (fields_in names.now))) }
-        ensures { Wrote self.old (name_lines (take n (fields_in names.now))) self.new }
+    fn name_lines(&mut self, names: &Names)
+        requires { Room self.old (name_lines names.now) }
+        ensures { Wrote self.old (name_lines names.now) self.new }
     {
-        if spaced_length(names, n) == 0 {
+        if names.spaced_length() == 0 {
             return;
         }
-        self.names(b".ilb", names, n);
-        self.names(b".ob", names, n);
+        self.names(b".ilb", names);
+        self.names(b".ob", names);
     }
 
     // The line `.type` with its word.
@@ -185,31 +220,20 @@ impl<'a> Page<'a> {
         }
     }
 
-    // The text of a table, with the first n fields of `names` as its names.
+    // The text of a table.
     #[tactic(auto, using(crate::proofs::TextLaws::table_parts))]
-    fn table(&mut self, t: Table, word: &[u8], n: u32, names: &[u8], words: &[u32])
-        requires { Room self.old (table_text t word.now n (take n (fields_in names.now)) words.now) }
-        ensures { Wrote self.old (table_text t word.now n (take n (fields_in names.now)) words.now) self.new }
+    fn table(&mut self, t: Table, word: &[u8], n: u32, names: &Names, words: &[u32])
+        requires { Room self.old (table_text t word.now n names.now words.now) }
+        ensures { Wrote self.old (table_text t word.now n names.now words.now) self.new }
     {
         self.header(b".i ", n as usize);
         self.header(b".o ", n as usize);
-        self.name_lines(names, n);
+        self.name_lines(names);
         self.type_line(word);
         self.count_line(t.counted, words.len());
         self.rows(n, words, t.ins, t.outs);
         self.bytes(b".e\n");
     }
-}
-
-// How many bytes the first n fields are, each after one space.
-fn spaced_length(names: &[u8], n: u32) -> usize
-    ensures { (result ≡ length (spaced (take n (fields_in names.now)))) × (result ≤ 2 * length names.now) }
-{
-    let mut sum = 0;
-    for name in Fields::new(names).take(n as usize) {
-        sum += 1 + name.len();
-    }
-    sum
 }
 
 // What stands in the column of relay v for the body of the rule w.
@@ -260,12 +284,12 @@ fn count_length(counted: bool, count: usize) -> usize
 
 // The name lines and `count` rows are not longer than the room.
 #[tactic(auto, using(crate::proofs::WriteLaws::rows_alone, crate::proofs::WriteLaws::lines_not, crate::proofs::WriteLaws::rows_behind))]
-fn rest_fits(n: PanelSize, names: &[u8], count: usize, room: usize) -> bool
+fn rest_fits(n: PanelSize, names: &Names, count: usize, room: usize) -> bool
     requires { room < 2 ^ 63 }
-    ensures { result ≡ leb (names_length (take n (fields_in names.now)) + count * (2 * n + 2)) room }
+    ensures { result ≡ leb (names_length names.now + count * (2 * n + 2)) room }
 {
     let row = 2 * n.relays() as usize + 2;
-    let spaced = spaced_length(names, n.relays());
+    let spaced = names.spaced_length();
     if spaced == 0 {
         return count <= room / row;
     }
@@ -281,9 +305,9 @@ fn rest_fits(n: PanelSize, names: &[u8], count: usize, room: usize) -> bool
 
 // The text of a table of `count` rows is not longer than the room.
 #[tactic(auto, using(crate::proofs::WriteLaws::fits_not, crate::proofs::WriteLaws::fits_rest))]
-fn text_fits(t: Table, word: &[u8], n: PanelSize, names: &[u8], count: usize, room: usize) -> bool
+fn text_fits(t: Table, word: &[u8], n: PanelSize, names: &Names, count: usize, room: usize) -> bool
     requires { (count < 2 ^ 63) × (length word.now ≤ 2) × (room < 2 ^ 63) }
-    ensures { result ≡ leb (text_length t word.now n (take n (fields_in names.now)) count) room }
+    ensures { result ≡ leb (text_length t word.now n names.now count) room }
 {
     let head = 18 + word.len() + 2 * digits(n.relays() as usize) + count_length(t.counted, count);
     if room < head {
@@ -303,13 +327,13 @@ const SHEET_TABLE: Table = Table {
 #[tactic(auto, unfolding(crate::specs::Writing::write_code), using(crate::proofs::WriteLaws::size_small, crate::proofs::WriteLaws::text_kept))]
 fn writable<'a>(
     n: u32,
-    names: &[u8],
+    names: &Names,
     sheet: &'a [u32],
     count: usize,
     room: usize,
 ) -> Result<&'a [u32], Refusal>
     requires { room < 2 ^ 63 }
-    ensures code { refusal_code result ≡ write_code n (take n (fields_in names.now)) sheet.now count room }
+    ensures code { refusal_code result ≡ write_code n names.now sheet.now count room }
     ensures rules { IfOk result (λ rules. rules.now ≡ take count sheet.now) }
 {
     let n = PanelSize::new(n).ok_or(Refusal::PanelSize)?;
@@ -326,15 +350,15 @@ fn writable<'a>(
     Ok(rules)
 }
 
-// The length of the sheet's text, with the first n fields of `names` as the names.
+// The length of the sheet's text.
 fn write_named(
     n: u32,
-    names: &[u8],
+    names: &Names,
     sheet: &[u32],
     count: usize,
     out: &mut [u8],
 ) -> Result<usize, Refusal>
-    ensures { WritesNamed n (take n (fields_in names.now)) sheet.now count out.old out.new (write_answer result) }
+    ensures { WritesNamed n names.now sheet.now count out.old out.new (write_answer result) }
 {
     let rules = writable(n, names, sheet, count, out.len())?;
     let mut page = Page::new(out);
@@ -368,5 +392,9 @@ pub fn write_sheet<'a>(
 {
     let line = naming::name_line(panel, maker, n);
     let at = names::names_span(line);
-    write_answer(write_named(n, &line[at.from..at.to], sheet, count, out))
+    let names = Names {
+        line: &line[at.from..at.to],
+        count: n,
+    };
+    write_answer(write_named(n, &names, sheet, count, out))
 }

@@ -1,10 +1,10 @@
 -- `writing::Page::spaced` meets its contract.
-use Rattle.writing.proofs.NameLines.{left_first, spacing_start, spacing_room, spacing_more, spacing_end, left_next, left_none}
+use Rattle.writing.proofs.NameLines.{spacing_start, spacing_room, spacing_more, spacing_end, left_next, left_none}
 use native.Mathlib.Omega.{arith}
 use Rattle.writing.proofs.Page.spaced.Goals as goal
 
 pub loop-name-init : goal.loop-name-init
-loop-name-init c = rw (left_first c.args.names.now c.into_iter-name-iterator.ensures.into_iter_gives c.take-name-items.ensures.source c.new.ensures c.take-name-items.ensures.count) (spacing_start _ _ (omega arith))
+loop-name-init c = rw (c.into_iter-name-iterator.ensures.into_iter_gives, c.each-name-items.ensures.items) (spacing_start _ _ (omega arith))
 
 pub byte-requires : goal.byte-requires
 byte-requires c =
