@@ -297,10 +297,8 @@ fn rest_fits(n: PanelSize, names: &Names, count: usize, room: usize) -> bool
         return false;
     }
     let lines = 9 + 2 * spaced;
-    if room < lines {
-        return false;
-    }
-    count <= (room - lines) / row
+    room.checked_sub(lines)
+        .is_some_and(|left| count <= left / row)
 }
 
 // The text of a table of `count` rows is not longer than the room.
@@ -310,10 +308,8 @@ fn text_fits(t: Table, word: &[u8], n: PanelSize, names: &Names, count: usize, r
     ensures { result ≡ leb (text_length t word.now n names.now count) room }
 {
     let head = 18 + word.len() + 2 * digits(n.relays() as usize) + count_length(t.counted, count);
-    if room < head {
-        return false;
-    }
-    rest_fits(n, names, count, room - head)
+    // No `checked_sub` as above: of a closure that calls `rest_fits`, nothing is known without clauses of its own.
+    head <= room && rest_fits(n, names, count, room - head)
 }
 
 // A sheet is a table with `.p`, of the bodies and heads of its rules.
