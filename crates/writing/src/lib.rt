@@ -52,6 +52,7 @@ impl<'a> Model for Names<'a> {
 }
 
 impl<'a> Names<'a> {
+    // Written with a space before each, they still fit a `usize`: each has a byte of the line.
     fn each(&self) -> Take<Fields<'a>>
         ensures items { names_left result ≡ self.now }
         ensures few { length (spaced self.now) < 2 ^ 64 }
