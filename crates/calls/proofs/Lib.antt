@@ -3,3 +3,4 @@ pub mod Ends
 pub mod Applying
 pub mod Determined
 pub mod Ladder
+pub mod Steps

@@ -1,3 +1,4 @@
 pub mod Judging
 pub mod Doing
 pub mod Promises
+pub mod Steps

@@ -6,3 +6,4 @@ pub mod ColumnLaws
 pub mod Examples
 pub mod Request
 pub mod Instances
+pub mod Steps

@@ -57,17 +57,17 @@ named_in t l h = let s = home_stands t l.at (naming_e t l h).1 in (s.ordered, s.
 
 -- ---- two texts
 
-source_cases : (panel maker : List ℕ) (s : Source) (w v : Naming) → naming_of panel ≡ w → naming_of maker ≡ v → source_for w v ≡ Some s → naming_of (cond s.maker maker panel) ≡ Named s.names
-source_cases panel maker s Refused v p q h = absurd (none-some s h)
-source_cases panel maker s Nameless Refused p q h = absurd (none-some s h)
-source_cases panel maker s Nameless Nameless p q h = absurd (none-some s h)
-source_cases panel maker s Nameless (Named l) p q h = let e : record { maker = true; names = l } ≡ s = cc in rw (← e) q
-source_cases panel maker s (Named l) v p q h = let e : record { maker = false; names = l } ≡ s = cc in rw (← e) p
+source_cases_of : (panel maker : List ℕ) (s : Source) (w v : Naming) → naming_of panel ≡ w → naming_of maker ≡ v → source_for w v ≡ Some s → naming_of (cond s.maker maker panel) ≡ Named s.names
+source_cases_of panel maker s Refused v p q h = absurd (none-some s h)
+source_cases_of panel maker s Nameless Refused p q h = absurd (none-some s h)
+source_cases_of panel maker s Nameless Nameless p q h = absurd (none-some s h)
+source_cases_of panel maker s Nameless (Named l) p q h = let e : record { maker = true; names = l } ≡ s = cc in rw (← e) q
+source_cases_of panel maker s (Named l) v p q h = let e : record { maker = false; names = l } ≡ s = cc in rw (← e) p
 
 -- the line that is used is that of its text
 pub source_is : (panel maker : List ℕ) (s : Source) → source_of panel maker ≡ Some s → naming_of (cond s.maker maker panel) ≡ Named s.names
 unfolding source_of
-source_is panel maker s h = source_cases panel maker s (naming_of panel) (naming_of maker) refl refl h
+source_is panel maker s h = source_cases_of panel maker s (naming_of panel) (naming_of maker) refl refl h
 
 -- by what the panel's text says
 pub source_nameless : (panel maker : List ℕ) → naming_of panel ≡ Nameless → makers_source (naming_of maker) ≡ source_of panel maker

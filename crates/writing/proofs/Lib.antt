@@ -3,3 +3,4 @@ pub mod NameLines
 pub mod TextLaws
 pub mod WriteLaws
 pub mod Examples
+pub mod Steps
