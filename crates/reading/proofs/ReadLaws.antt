@@ -21,6 +21,7 @@ use Rattle.headers.proofs.PlaceLaws.{bad_iff_place}
 use Rattle.headers.proofs.TypeLines.{untyped_faulty, same_or_untyped}
 use Rattle.reading.specs.Rows.{words_in, text_words}
 use Rattle.reading.specs.Reading.{refusal, answer_of, list_of, answer_for, list_for, laid_answer, laid_list, ReadsLaid, Reads}
+use Rattle.reading.specs.declared.WordsRead.{WordsRead}
 use Rattle.reading.specs.declared.ReadAnswer.{ReadAnswer}
 
 -- what `read_laid` answers in each of its three cases, over what its calls answer
@@ -45,7 +46,7 @@ module _ (lay : Layout) (t before after : List ℕ) (r : ReadAnswer) where
       record { answer = rw (← h, ← q, f) a; list = rw (← h, ← q, f) (e ∙ rw (w, s)) }
 
 -- what a `?` hands back is what was refused
-pub read_err : (P : List ℕ → ReadAnswer → Type 0) (after : List ℕ) (w : Refused) (r : Result (ℕ × ℕ) Refused) → IsErrAnd r (λ e. e ≡ w)
+pub read_err : (P : List ℕ → ReadAnswer → Type 0) (after : List ℕ) (w : Refused) (r : Result WordsRead Refused) → IsErrAnd r (λ e. e ≡ w)
     → P (replicate (length after) 0) (refusal (code_of w.why) w.place) → P (list_of r after) (answer_of r)
 read_err P after w (Ok p) e h = absurd e
 read_err P after w (Err x) e h = rw e h

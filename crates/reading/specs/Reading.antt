@@ -8,7 +8,9 @@ use Rattle.headers.specs.Verdicts.{judge_of}
 use Rattle.headers.specs.declared.Layout.{Layout}
 use Rattle.headers.specs.Verdicts.{Verdict}
 use Rattle.reading.specs.Rows.{words_in}
+use Rattle.reading.specs.declared.WordsRead.{WordsRead}
 use Rattle.reading.specs.declared.ReadAnswer.{ReadAnswer}
+use Rattle.reading.specs.declared.Words.{Words}
 
 -- words stand in a list behind the first `from` of what it held before, and end at k
 pub record Put (ws before : List ℕ) (from : ℕ) (after : List ℕ) (k : ℕ) : Type 0 where
@@ -21,18 +23,29 @@ abbrev pub Puts : List ℕ → List ℕ → ℕ → List ℕ → Option ℕ → 
 Puts ws before from after (Some k) = Put ws before from after k
 Puts ws before from after None = length before < from + length ws
 
+-- where words end, or `None` if they found no room
+abbrev pub end_if : Option (Unit {0}) → ℕ → Option ℕ
+end_if (Some x) k = Some k
+end_if None k = None
+
+-- words are put behind those of p, and q is what stands there then, in the same lent list
+pub record Adds (p : Words) (ws : List ℕ) (q : Words) (r : Option (Unit {0})) : Type 0 where
+  pub same_reference : q.list.ghost_name ≡ p.list.ghost_name
+  pub long : length q.list.now ≡ length p.list.now
+  pub puts : Puts ws p.list.now p.count q.list.now (end_if r q.count)
+
 -- a refusal has a code and a place; n and the count are 0
 abbrev pub refusal : ℕ → ℕ → ReadAnswer
 refusal code place = record { code = code; place = place; n = 0; count = 0 }
 
 -- the answer to what was read: the size and how many words, or why it is refused and where
-abbrev pub answer_of : Result (ℕ × ℕ) Refused → ReadAnswer
-answer_of (Ok p) = record { code = 0; place = 0; n = p.0; count = p.1 }
+abbrev pub answer_of : Result WordsRead Refused → ReadAnswer
+answer_of (Ok p) = record { code = 0; place = 0; n = p.n; count = p.count }
 answer_of (Err w) = refusal (code_of w.why) w.place
 
 -- the list after it: 0 in every word beyond the words; all 0 where refused
-abbrev pub list_of : Result (ℕ × ℕ) Refused → List ℕ → List ℕ
-list_of (Ok p) list = cleared_from p.1 list
+abbrev pub list_of : Result WordsRead Refused → List ℕ → List ℕ
+list_of (Ok p) list = cleared_from p.count list
 list_of (Err w) list = replicate (length list) 0
 
 -- 11 with its place; else 8 if the words are more than the room; else done

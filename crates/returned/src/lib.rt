@@ -7,23 +7,22 @@ ghost use Rattle.returned.specs.Returned.{ReadsSheet};
 
 use answers::{Refusal, Refused};
 use panel::PanelSize;
-use reading::ReadAnswer;
+use reading::{ReadAnswer, WordsRead};
 
 // Reads a sheet as far as its words in order: refused with 11, 8 or 5, in this order. `reading::finish` makes the answer of it.
-fn read_rules(text: &[u8], words: &mut [u32]) -> Result<(u32, usize), Refused>
+fn read_rules(text: &[u8], words: &mut [u32]) -> Result<WordsRead, Refused>
     ensures read { ReadsSheet text.now words.old (list_of result words.new) (answer_of result) }
-    ensures fits { IfOk result (λ p. p.1 ≤ length words.new) }
+    ensures fits { IfOk result (λ p. p.count ≤ length words.new) }
 {
-    let (n, count) = reading::read_words(judging::sheet_layout(), text, words)?;
-    let rules = &mut words[..count];
+    let read = reading::read_words(judging::sheet_layout(), text, words)?;
+    let rules = &mut words[..read.count];
     sorting::order(rules);
-    if !prime::is_good_sheet(PanelSize::of(n), rules) {
+    if !prime::is_good_sheet(PanelSize::of(read.n), rules) {
         return Err(Refused::from(Refusal::Sheet));
     }
-    Ok((n, count))
+    Ok(read)
 }
 
-// 11, 8 or 5, in this order; else the words in increasing order.
 pub fn read_sheet(text: &[u8], words: &mut [u32]) -> ReadAnswer
     ensures { ReadsSheet text.now words.old words.new result }
 {

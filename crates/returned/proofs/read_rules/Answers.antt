@@ -6,23 +6,23 @@ use Rattle.returned.proofs.SheetReadLaws.{rows_fit, rows_refused, size_few, read
 use Rattle.returned.specs.Returned.{ReadsSheet}
 use Rattle.returned.proofs.read_rules.Goals as goal
 
-pub returns-in_err-n-clause-read : goal.returns-in_err-n-clause-read
-returns-in_err-n-clause-read c =
-    let w = c.in_err-n.field-0.0 in
+pub returns-in_err-read-clause-read : goal.returns-in_err-read-clause-read
+returns-in_err-read-clause-read c =
+    let w = c.in_err-read.field-0.0 in
     read_err (λ list r. ReadsSheet c.args.text.now c.args.words.now list r) c.read_words.new.list w _ c.from_residual.ensures.1
-    (rows_refused _ _ _ _ (rw c.sheet_layout.ensures at c.in_err-n.ensures.read) (code_not_none w.why))
+    (rows_refused _ _ _ _ (rw c.sheet_layout.ensures at c.in_err-read.ensures.read) (code_not_none w.why))
 
 pub of-requires : goal.of-requires
 of-requires c =
-    size_few _ _ _ _ _ c.in_ok-n.ensures.fits (rows_fit _ _ _ _ (rw c.sheet_layout.ensures at c.in_ok-n.ensures.read) refl)
+    size_few _ _ _ _ _ c.in_ok-read.ensures.fits (rows_fit _ _ _ _ (rw c.sheet_layout.ensures at c.in_ok-read.ensures.read) refl)
 
 pub returns-then-not-is_good_sheet-clause-read : goal.returns-then-not-is_good_sheet-clause-read
 returns-then-not-is_good_sheet-clause-read c =
     rw c.from.ensures
-    (read_no_good _ _ _ _ _ c.in_ok-n.ensures.fits (rows_fit _ _ _ _ (rw c.sheet_layout.ensures at c.in_ok-n.ensures.read) refl)
+    (read_no_good _ _ _ _ _ c.in_ok-read.ensures.fits (rows_fit _ _ _ _ (rw c.sheet_layout.ensures at c.in_ok-read.ensures.read) refl)
     _ c.order.ensures _ (rw c.of.ensures at c.is_good_sheet.ensures) c.if-not-is_good_sheet.true)
 
 pub returns-clause-read : goal.returns-clause-read
 returns-clause-read c =
-    read_good _ _ _ _ _ c.in_ok-n.ensures.fits (rows_fit _ _ _ _ (rw c.sheet_layout.ensures at c.in_ok-n.ensures.read) refl)
+    read_good _ _ _ _ _ c.in_ok-read.ensures.fits (rows_fit _ _ _ _ (rw c.sheet_layout.ensures at c.in_ok-read.ensures.read) refl)
     _ c.order.ensures _ (rw c.of.ensures at c.is_good_sheet.ensures) c.if-not-is_good_sheet.false
