@@ -1,7 +1,7 @@
 // The public calls fresh, take and apply: each checks its own input, and answers for every input.
 #![tactic(auto)]
 
-ghost use Rattle.std.specs.Prelude.{◌≡◌, false, take, ◌<◌};
+ghost use Rattle.std.specs.Prelude.{◌≡◌, false, IfOk};
 ghost use Rattle.answers.specs.Refusals.{refusal_code};
 ghost use Rattle.inner.specs.Inner.{answer_of};
 ghost use Rattle.calls.specs.Fresh.{fresh_code, Fresh};
@@ -21,28 +21,32 @@ pub struct Applied {
 
 // A panel has one to ten relays, and there is room for the n rules of its fresh sheet.
 #[tactic(auto, using(std::proofs::lemmas::Bool::Decides::nat_tests), unfolding(crate::specs::Fresh::fresh_code))]
-pub fn check_fresh(n: u32, room: usize) -> Result<(), Refusal>
-    ensures { refusal_code result ≡ fresh_code n room }
+pub fn check_fresh(n: u32, room: usize) -> Result<PanelSize, Refusal>
+    ensures code { refusal_code result ≡ fresh_code n room }
+    ensures size { IfOk result (λ s. s ≡ n) }
 {
     let n = PanelSize::new(n).ok_or(Refusal::PanelSize)?;
     if room < n.relays() as usize {
         return Err(Refusal::SheetRoom);
     }
-    Ok(())
+    Ok(n)
 }
+
+// In the answers of the public calls a refusal is its number: `Fresh`, `Taken` and `apply_answer`, which their `Contract` names, have an answer with a code.
 
 // Writes the fresh sheet: n rules with empty bodies.
 pub fn fresh(n: u32, sheet: &mut [u32]) -> Answer
     ensures { Fresh n sheet.old sheet.new result }
 {
-    if let Err(why) = check_fresh(n, sheet.len()) {
-        // From here on a refusal is its number: `Fresh`, which `Contract` of the public calls names, has an answer with a code.
-        return Answer::refused(why, 0, 0, 0);
+    match check_fresh(n, sheet.len()) {
+        Ok(n) => {
+            sheet::write_fresh(sheet, n);
+            let count = n.relays() as usize;
+            table::clear_from(sheet, count);
+            done_answer(0, count, 0, 0)
+        }
+        Err(why) => Answer::refused(why, 0, 0, 0),
     }
-    sheet::write_fresh(sheet, PanelSize::of(n));
-    let count = n as usize;
-    table::clear_from(sheet, count);
-    done_answer(0, count, 0, 0)
 }
 
 // The size, the counts, the book, the sheet and the transition are sound: refused with 2 to 6.
@@ -57,8 +61,9 @@ fn check_given(
     sheet_count: usize,
     i: u32,
     j: u32,
-) -> Result<(), Refusal>
-    ensures { refusal_code result ≡ given_code spoilt n book.now book_count sheet.now sheet_count i j }
+) -> Result<PanelSize, Refusal>
+    ensures code { refusal_code result ≡ given_code spoilt n book.now book_count sheet.now sheet_count i j }
+    ensures size { IfOk result (λ s. s ≡ n) }
 {
     let n = PanelSize::new(n).ok_or(Refusal::PanelSize)?;
     if spoilt || book.len() < book_count || sheet.len() < sheet_count {
@@ -74,7 +79,7 @@ fn check_given(
     if states <= i || states <= j {
         return Err(Refusal::Word);
     }
-    Ok(())
+    Ok(n)
 }
 
 // All that can be refused before the new sheet is known.
@@ -87,11 +92,13 @@ fn check_entry(
     sheet_count: usize,
     i: u32,
     j: u32,
-) -> Result<(), Refusal>
-    ensures { refusal_code result ≡ entry_code spoilt n book.now book_count sheet.now sheet_count i j }
+) -> Result<PanelSize, Refusal>
+    ensures code { refusal_code result ≡ entry_code spoilt n book.now book_count sheet.now sheet_count i j }
+    ensures size { IfOk result (λ s. s ≡ n) }
 {
-    check_given(spoilt, n, book, book_count, sheet, sheet_count, i, j)?;
-    inner::check_booking(&book[..book_count], i, j, book.len())
+    let n = check_given(spoilt, n, book, book_count, sheet, sheet_count, i, j)?;
+    inner::check_booking(&book[..book_count], i, j, book.len())?;
+    Ok(n)
 }
 
 // Take, with the reason where it is refused; then both slices stay as they are.
@@ -107,9 +114,9 @@ fn try_take(
 ) -> Result<Done, Refusal>
     ensures { Taken spoilt n book.old book_count sheet.old sheet_count i j book.new sheet.new (answer_of book_count sheet_count result) }
 {
-    check_entry(spoilt, n, book, book_count, sheet, sheet_count, i, j)?;
+    let n = check_entry(spoilt, n, book, book_count, sheet, sheet_count, i, j)?;
     let t = panel::transition_word(i, j);
-    let done = inner::take_in(PanelSize::of(n), t, book, book_count, sheet, sheet_count)?;
+    let done = inner::take_in(n, t, book, book_count, sheet, sheet_count)?;
     table::clear_from(book, done.book_count);
     table::clear_from(sheet, done.sheet_count);
     Ok(done)
@@ -129,8 +136,7 @@ pub fn take_unless(
     ensures { Taken spoilt n book.old book_count sheet.old sheet_count i j book.new sheet.new result }
 {
     match try_take(spoilt, n, i, j, book, book_count, sheet, sheet_count) {
-        Ok(done) => done.answer(),
-        // From here on a refusal is its number: `Taken`, which `Contract` of the public calls names, has an answer with a code.
+        Ok(done) => Answer::from(done),
         Err(why) => Answer::refused(why, 0, book_count, sheet_count),
     }
 }
@@ -152,8 +158,9 @@ pub fn take(
 
 // The size, the count, the sheet and the state are sound: refused with 2, 3, 5 or 6.
 #[tactic(auto, using(std::proofs::lemmas::Bool::Decides::nat_tests), unfolding(crate::specs::Apply::apply_code, panel::specs::Masks::panel_size))]
-fn check_apply(n: u32, sheet: &[u32], sheet_count: usize, x: u32) -> Result<(), Refusal>
-    ensures { refusal_code result ≡ apply_code n sheet.now sheet_count x }
+fn check_apply(n: u32, sheet: &[u32], sheet_count: usize, x: u32) -> Result<PanelSize, Refusal>
+    ensures code { refusal_code result ≡ apply_code n sheet.now sheet_count x }
+    ensures size { IfOk result (λ s. s ≡ n) }
 {
     let n = PanelSize::new(n).ok_or(Refusal::PanelSize)?;
     if sheet.len() < sheet_count {
@@ -165,22 +172,21 @@ fn check_apply(n: u32, sheet: &[u32], sheet_count: usize, x: u32) -> Result<(), 
     if n.states() <= x {
         return Err(Refusal::Word);
     }
-    Ok(())
+    Ok(n)
 }
 
 // Applies the sheet to a state: a relay is on in the answer exactly if some rule of it covers the state.
 pub fn apply(n: u32, sheet: &[u32], sheet_count: usize, x: u32) -> Applied
     ensures { result ≡ apply_answer n sheet.now sheet_count x }
 {
-    if let Err(why) = check_apply(n, sheet, sheet_count, x) {
-        // From here on a refusal is its number: `apply_answer`, which `Contract` of the public calls names, has an answer with a code.
-        return Applied {
+    match check_apply(n, sheet, sheet_count, x) {
+        Ok(n) => Applied {
+            answer: done_answer(0, 0, 0, 0),
+            state: prime::apply_rules(n, &sheet[..sheet_count], x),
+        },
+        Err(why) => Applied {
             answer: Answer::refused(why, 0, 0, 0),
             state: 0,
-        };
-    }
-    Applied {
-        answer: done_answer(0, 0, 0, 0),
-        state: prime::apply_rules(PanelSize::of(n), &sheet[..sheet_count], x),
+        },
     }
 }

@@ -12,7 +12,7 @@ use answers::{Answer, Refusal, done_answer};
 use panel::PanelSize;
 
 // What a take leaves: how many words stand in both tables, and how many rules it struck and added.
-#[derive(Clone, Copy, PartialEq, Eq, Debug)]
+#[derive(Clone, Copy, Default, PartialEq, Eq, Debug)]
 pub struct Done {
     pub book_count: usize,
     pub sheet_count: usize,
@@ -20,12 +20,12 @@ pub struct Done {
     pub added: usize,
 }
 
-impl Done {
-    // The answer of a call that did it.
-    pub fn answer(self) -> Answer
-        ensures { result ≡ answer_done self }
-    {
-        done_answer(self.book_count, self.sheet_count, self.struck, self.added)
+// The answer of a call that did it.
+impl From<Done> for Answer {
+    ghost from_gives = { λ done r. r ≡ answer_done done };
+
+    fn from(done: Done) -> Answer {
+        done_answer(done.book_count, done.sheet_count, done.struck, done.added)
     }
 }
 

@@ -97,23 +97,22 @@ module _ (n : ℕ) (so : Answer) (book sheet : List ℕ) where
     unfolding learn_end
     end_is = ap (learn_end n) (run_of_going so book sheet z)
 
-    module _ (p : ℕ) (ep : p ≡ reproduced n s b) where
-      pub end_ten : p < so.book_count → (r : Answer) → r ≡ plain 10 p 0 0 → (bz sz : List ℕ) → bz ≡ replicate (length book) 0 → sz ≡ replicate (length sheet) 0 → Finished n so book sheet r bz sz
-      end_ten l r er bz sz eb es =
-          as_refused 10 p r bz sz
-          (end_is ∙ ap₂ (λ (q : Bool) (m : ℕ). cond q (refused 10 m) (going b s so.struck so.added)) (lt-ltb (reproduced n s b) (length b) (omega (arith, ep, b_length))) (sym ep))
-          er eb es
+    pub end_ten : (p : ℕ) → p ≡ reproduced n s b → p < length b → (r : Answer) → r ≡ plain 10 p 0 0 → (bz sz : List ℕ) → bz ≡ replicate (length book) 0 → sz ≡ replicate (length sheet) 0 → Finished n so book sheet r bz sz
+    end_ten p ep l r er bz sz eb es =
+        as_refused 10 p r bz sz
+        (end_is ∙ ap₂ (λ (q : Bool) (m : ℕ). cond q (refused 10 m) (going b s so.struck so.added)) (lt-ltb (reproduced n s b) (length b) (omega (arith, ep, l))) (sym ep))
+        er eb es
 
-      pub end_done : so.book_count ≤ p → (bz sz : List ℕ) → bz ≡ cleared_from so.book_count book → sz ≡ cleared_from so.sheet_count sheet → Finished n so book sheet so bz sz
-      unfolding run_answer run_book run_sheet
-      end_done l bz sz eb es =
-          let e : learn_end n (run_of so book sheet) ≡ going b s so.struck so.added =
-          end_is ∙ ap (λ (q : Bool). cond q (refused 10 (reproduced n s b)) (going b s so.struck so.added)) (le-ltb (reproduced n s b) (length b) (omega (arith, ep, b_length))) in
-          record {
-            answer = sd.as_done ∙ ap₂ (λ (u v : ℕ). done u v so.struck so.added) (sym b_length) (sym s_length) ∙ sym (ap run_answer e);
-            book_words = holds_filled book bz so.book_count (length book) b (record { is = refl; fits = sd.books_in; same = refl }) eb ∙ sym (ap (run_book (length book)) e);
-            sheet_words = holds_filled sheet sz so.sheet_count (length sheet) s (record { is = refl; fits = sd.sheets_in; same = refl }) es ∙ sym (ap (run_sheet (length sheet)) e);
-          }
+    pub end_done : reproduced n s b ≡ length b → (bz sz : List ℕ) → bz ≡ cleared_from so.book_count book → sz ≡ cleared_from so.sheet_count sheet → Finished n so book sheet so bz sz
+    unfolding run_answer run_book run_sheet
+    end_done e₀ bz sz eb es =
+        let e : learn_end n (run_of so book sheet) ≡ going b s so.struck so.added =
+        end_is ∙ ap (λ (q : Bool). cond q (refused 10 (reproduced n s b)) (going b s so.struck so.added)) (le-ltb (reproduced n s b) (length b) (omega (arith, e₀))) in
+        record {
+          answer = sd.as_done ∙ ap₂ (λ (u v : ℕ). done u v so.struck so.added) (sym b_length) (sym s_length) ∙ sym (ap run_answer e);
+          book_words = holds_filled book bz so.book_count (length book) b (record { is = refl; fits = sd.books_in; same = refl }) eb ∙ sym (ap (run_book (length book)) e);
+          sheet_words = holds_filled sheet sz so.sheet_count (length sheet) s (record { is = refl; fits = sd.sheets_in; same = refl }) es ∙ sym (ap (run_sheet (length sheet)) e);
+        }
 
 -- ---- the whole
 

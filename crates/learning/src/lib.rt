@@ -1,12 +1,13 @@
 // Learn: fresh, then take for each word of a list, then the self-check.
 #![tactic(auto)]
 
-ghost use Rattle.std.specs.Prelude.{◌≡◌, true, ◌≤◌, length};
+ghost use Rattle.std.specs.Prelude.{◌≡◌, true, ◌<◌, length, MatchOption};
 ghost use Rattle.table.specs.Lists.{all};
 ghost use Rattle.panel.specs.Rules.{valid_rule};
 ghost use Rattle.book.specs.Books.{states_up};
 ghost use Rattle.answers.specs.Refusals.{refusal_code};
 ghost use Rattle.inner.specs.Inner.{answer_done};
+ghost use Rattle.calls.specs.Fresh.{fresh_code};
 ghost use Rattle.learning.specs.Learn.{word_code, reproduced, Learned};
 ghost use Rattle.learning.specs.Running.{answer_for, words_left, Fit, WordLearned, Through, Begun, Finished};
 
@@ -54,18 +55,16 @@ fn learn_word(
     }
 }
 
-// The fresh sheet to start from.
-fn learn_start(n: u32, sheet: &mut [u32]) -> Result<Done, Refused>
-    ensures { Begun n sheet.old (answer_for result) sheet.new }
+// The fresh sheet to start from, for which there is room.
+fn learn_start(n: PanelSize, sheet: &mut [u32]) -> Done
+    requires { fresh_code n (length sheet.old) ≡ 0 }
+    ensures { Begun n sheet.old (answer_done result) sheet.new }
 {
-    calls::check_fresh(n, sheet.len())?;
-    sheet::write_fresh(sheet, PanelSize::of(n));
-    Ok(Done {
-        book_count: 0,
-        sheet_count: n as usize,
-        struck: 0,
-        added: 0,
-    })
+    sheet::write_fresh(sheet, n);
+    Done {
+        sheet_count: n.relays() as usize,
+        ..Done::default()
+    }
 }
 
 // Every word of the list in turn, until one is refused.
@@ -86,17 +85,17 @@ fn learn_words(
     Ok(so)
 }
 
-// How many words of the book, from the front, the sheet reproduces.
-fn count_reproduced(n: PanelSize, book: &[u32], sheet: &[u32]) -> usize
+// The place of the first word of the book that the sheet does not reproduce, if there is one.
+fn first_unreproduced(n: PanelSize, book: &[u32], sheet: &[u32]) -> Option<usize>
     requires { all (valid_rule n) sheet.now ≡ true }
-    ensures { (result ≡ reproduced n sheet.now book.now) × (result ≤ length book.now) }
+    ensures { MatchOption result (reproduced n sheet.now book.now ≡ length book.now) (λ k. (k ≡ reproduced n sheet.now book.now) × (k < length book.now)) }
 {
     for (k, &t) in book.iter().enumerate() {
         if prime::apply_rules(n, sheet, panel::state_of(t)) != panel::next_of(t) {
-            return k;
+            return Some(k);
         }
     }
-    book.len()
+    None
 }
 
 // The self-check, and the words beyond both tables cleared.
@@ -104,11 +103,10 @@ fn learn_end(n: PanelSize, so: Done, book: &mut [u32], sheet: &mut [u32]) -> Res
     requires { Fit n (answer_done so) book.old sheet.old }
     ensures { Finished n (answer_done so) book.old sheet.old (answer_for result) (words_left result book.new) (words_left result sheet.new) }
 {
-    let sound = count_reproduced(n, &book[..so.book_count], &sheet[..so.sheet_count]);
-    if sound < so.book_count {
+    if let Some(place) = first_unreproduced(n, &book[..so.book_count], &sheet[..so.sheet_count]) {
         return Err(Refused {
             why: Refusal::Unreproduced,
-            place: sound,
+            place,
         });
     }
     table::clear_from(book, so.book_count);
@@ -120,8 +118,8 @@ fn learn_end(n: PanelSize, so: Done, book: &mut [u32], sheet: &mut [u32]) -> Res
 fn try_learn(n: u32, words: &[u32], book: &mut [u32], sheet: &mut [u32]) -> Result<Done, Refused>
     ensures { Learned n words.now (length book.old) (length sheet.old) (words_left result book.new) (words_left result sheet.new) (answer_for result) }
 {
-    let start = learn_start(n, sheet)?;
-    let n = PanelSize::of(n);
+    let n = calls::check_fresh(n, sheet.len())?;
+    let start = learn_start(n, sheet);
     let so = learn_words(n, words, start, book, sheet)?;
     learn_end(n, so, book, sheet)
 }
@@ -131,7 +129,7 @@ pub fn learn(n: u32, words: &[u32], book: &mut [u32], sheet: &mut [u32]) -> Answ
     ensures { Learned n words.now (length book.old) (length sheet.old) book.new sheet.new result }
 {
     match try_learn(n, words, book, sheet) {
-        Ok(done) => done.answer(),
+        Ok(done) => Answer::from(done),
         Err(refused) => {
             // A refused learn leaves nothing: 0 in every word of both slices.
             book.fill(0);
