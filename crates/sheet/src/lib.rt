@@ -52,8 +52,8 @@ pub fn count_changes(sheet: &[u32], n: PanelSize, t: u32) -> Tally
     so
 }
 
-// The lent words of a sheet, of which the first `have` are the table. That these are no more than there are stands in the contracts: tried as
-// a ghost field, it is refused as an import cycle, since a struct with one imports all specs of its file, and `Taking` names the struct.
+// The lent words of a sheet, of which the first `have` are the table. That these are no more than there are stands in the contracts: as a ghost
+// field here it is refused as an import cycle (`Taking` names the struct); with the struct in a file of its own it was not tried.
 #[derive(Drop)]
 struct Table<'a> {
     words: &'a mut [u32],
@@ -164,7 +164,7 @@ pub fn take_rules(sheet: &mut [u32], count: usize, n: PanelSize, t: u32) -> usiz
 }
 
 // The fresh sheet: n rules with empty bodies, over the front of the slice.
-// By index: once a `zip` over `iter_mut` is over, a proof knows nothing of the words (tried: `returns` stays open; std's LIBRARY.md says so).
+// By index: after a `zip` over `iter_mut` a proof knows how many words there are and not which (docs/NOT_COVERED.md of Rattle; so the goal of `returns`).
 pub fn write_fresh(sheet: &mut [u32], n: PanelSize)
     requires { n ≤ length sheet.old }
     ensures { sheet.new ≡ fresh_sheet n ++ drop n sheet.old }
