@@ -25,6 +25,14 @@ struct InUse<'a> {
     sheet: &'a [u32],
 }
 
+// What joining needs: the size of the panel, and the words in use of both pieces.
+#[derive(Clone, Copy)]
+struct Ready<'a> {
+    n: PanelSize,
+    a: InUse<'a>,
+    b: InUse<'a>,
+}
+
 impl<'a> Piece<'a> {
     // Refused where a count exceeds its slice.
     #[tactic(auto, unfolding(crate::specs::Joining::exceeds))]
@@ -46,10 +54,11 @@ fn judge<'a>(
     b: Piece<'a>,
     book_room: usize,
     sheet_room: usize,
-) -> Result<(InUse<'a>, InUse<'a>), Refusal>
+) -> Result<Ready<'a>, Refusal>
     ensures code { refusal_code result ≡ join_code n (piece a.entry.book.now a.entry.book_count a.entry.sheet.now a.entry.sheet_count) (piece b.entry.book.now b.entry.book_count b.entry.sheet.now b.entry.sheet_count) book_room sheet_room }
-    ensures books { IfOk result (λ r. (r.0.book.now ≡ take a.entry.book_count a.entry.book.now) × (r.1.book.now ≡ take b.entry.book_count b.entry.book.now)) }
-    ensures sheets { IfOk result (λ r. (r.0.sheet.now ≡ take a.entry.sheet_count a.entry.sheet.now) × (r.1.sheet.now ≡ take b.entry.sheet_count b.entry.sheet.now)) }
+    ensures size { IfOk result (λ r. r.n ≡ n) }
+    ensures books { IfOk result (λ r. (r.a.book.now ≡ take a.entry.book_count a.entry.book.now) × (r.b.book.now ≡ take b.entry.book_count b.entry.book.now)) }
+    ensures sheets { IfOk result (λ r. (r.a.sheet.now ≡ take a.entry.sheet_count a.entry.sheet.now) × (r.b.sheet.now ≡ take b.entry.sheet_count b.entry.sheet.now)) }
 {
     let n = PanelSize::new(n).ok_or(Refusal::PanelSize)?;
     let a = a.in_use()?;
@@ -69,7 +78,7 @@ fn judge<'a>(
     if sheet_room < walk::count_join(n, a.sheet, b.sheet) {
         return Err(Refusal::SheetRoom);
     }
-    Ok((a, b))
+    Ok(Ready { n, a, b })
 }
 
 // Joins two pieces: the union of the books, and the smallest bodies that both sheets permit. Refused, it changes nothing.
@@ -101,10 +110,10 @@ pub fn join(
         sheet_count: b_sheet_count,
     };
     match judge(n, a, b, book.len(), sheet.len()) {
-        Ok((a, b)) => {
-            let books = book::write_union(a.book, b.book, book);
+        Ok(ready) => {
+            let books = book::write_union(ready.a.book, ready.b.book, book);
             table::clear_from(book, books);
-            let sheets = walk::write_join(PanelSize::of(n), a.sheet, b.sheet, sheet);
+            let sheets = walk::write_join(ready.n, ready.a.sheet, ready.b.sheet, sheet);
             table::clear_from(sheet, sheets);
             answers::done_answer(books, sheets, 0, 0)
         }

@@ -1,9 +1,4 @@
-use mathlib.Core.Path.{◌≡◌, sym, subst}
-use mathlib.Core.Bool.{true}
-use Prim.Native.Nat.{ℕ, ◌≤◌}
-use lib.ListN.{length}
-use Rattle.table.specs.Surgery.{Holds}
-use Rattle.prime.specs.Sheets.{good_sheet, join_sheet}
+-- Code 0 hands good pieces and room to the writing, and then both tables stand with 0 behind them; a refusal leaves both slices.
 use Rattle.joining.proofs.Doing.{book_ready, sheet_ready, holds_fills, join_refused, join_done}
 use Rattle.joining.proofs.join.Goals as goal
 
@@ -18,19 +13,13 @@ write_union-books-requires-clause-has_room c = let k = c.in-Ok.ensures in (book_
 pub write_join-sheets-requires : goal.write_join-sheets-requires
 write_join-sheets-requires c = let k = c.in-Ok.ensures in
     let t = sheet_ready _ _ _ _ _ k.code _ _ k.sheets.0 k.sheets.1 in
-    let a = c.in-Ok.a.sheet.now in
-    let b = c.in-Ok.b.sheet.now in
-    subst (λ (m : ℕ). (good_sheet m a ≡ true) × (good_sheet m b ≡ true) × (length (join_sheet m a b) ≤ length c.args.sheet.now)) (sym c.of.ensures)
-    (t.1, t.2, t.3)
-
-pub of-requires : goal.of-requires
-of-requires c = let k = c.in-Ok.ensures in (sheet_ready _ _ _ _ _ k.code _ _ k.sheets.0 k.sheets.1).0
+    rw k.size (t.1, t.2, t.3)
 
 pub returns-in-Ok : goal.returns-in-Ok
 returns-in-Ok c = let k = c.in-Ok.ensures in
     join_done _ _ _ _ _ k.code _ _ _ _ k.books.0 k.books.1 k.sheets.0 k.sheets.1 _ _ _ _
     (holds_fills _ _ _ _ _ c.write_union-books.ensures.holds c.clear_from.ensures)
-    (holds_fills _ _ _ _ _ (subst (λ (m : ℕ). Holds c.write_join-sheets.new.out c.write_join-sheets.result (length c.args.sheet.now) (join_sheet m c.in-Ok.a.sheet.now c.in-Ok.b.sheet.now)) c.of.ensures c.write_join-sheets.ensures.holds) c.clear_from-in-Ok.ensures) _ c.done_answer.ensures
+    (holds_fills _ _ _ _ _ (rw k.size at c.write_join-sheets.ensures.holds) c.clear_from-in-Ok.ensures) _ c.done_answer.ensures
 
 pub returns-in-Err : goal.returns-in-Err
 returns-in-Err c = join_refused _ _ _ _ _ c.in-Err.why c.in-Err.ensures.code _ c.refused.ensures
