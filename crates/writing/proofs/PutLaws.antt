@@ -1,13 +1,12 @@
 -- Laws of writing one thing behind another.
-use borrow.Rule.Slice.PartMut.{put_mid}
-use Prim.Native.Nat.{ℕ, ◌+◌, ◌-◌, ◌/◌, ◌%◌, ◌≤◌, ◌<◌}
+use Prim.Native.Nat.{ℕ, ◌+◌, ◌/◌, ◌%◌, ◌≤◌, ◌<◌}
 use mathlib.Core.Path.{◌≡◌, refl, sym, ◌∙◌, ap}
 use mathlib.Core.List.{List, [], ◌∷◌, ◌++◌, append_assoc}
 use native.Mathlib.Omega.{arith}
 use native.Mathlib.Numerals.{add-one}
 use native.Mathlib.Nat.{add-zero, add_assoc}
-use lib.ListN.{length, set, take, drop, length-append, length-drop, take-append-drop}
-use lib.Seq.{length-take-le, take_at, drop_at, set_split, drop-drop}
+use lib.ListN.{length, get_or, set, take, drop, length-append, length-drop, take-append-drop}
+use lib.Seq.{length-take-le, take-suc, take_at, drop_at, set_split, drop-drop}
 use Rattle.fields.specs.Decimals.{decimal}
 use Rattle.fields.proofs.DecimalLaws.{decimal_one, decimal_more}
 use Rattle.writing.specs.Writing.{written, Put, Wrote}
@@ -17,7 +16,7 @@ pub put_none : (d : List ℕ) (at : ℕ) → Put d at [] d at
 unfolding written
 put_none d at = record { bytes = sym (ap (λ (k : ℕ). take at d ++ drop k d) (add-zero at) ∙ take-append-drop at d); behind = sym (add-zero at) }
 
-put_one : (d : List ℕ) (at b : ℕ) → at < length d → Put d at (b ∷ []) (set d at b) (at + 1)
+pub put_one : (d : List ℕ) (at b : ℕ) → at < length d → Put d at (b ∷ []) (set d at b) (at + 1)
 unfolding written
 put_one d at b h = record { bytes = set_split d at b h ∙ rw (← add-one at); behind = refl }
 
@@ -63,7 +62,7 @@ put_then d at s d' e u d'' f h p q =
 pub wrote_none : (p : Page) → p.at ≤ length p.out.now → Wrote p [] p
 wrote_none p h = record { same_reference = refl; room = omega arith; long = refl; put = put_none _ _ }
 
--- a byte, and bytes, set in the lent bytes
+-- a byte set in the lent bytes
 pub wrote_byte : (p q : Page) (b : ℕ) → p.at < length p.out.now → q.out.ghost_name ≡ p.out.ghost_name → q.out.now ≡ set p.out.now p.at b → q.at ≡ p.at + 1 → Wrote p (b ∷ []) q
 wrote_byte p q b h g o e =
     let w = put_one p.out.now p.at b h in
@@ -74,14 +73,6 @@ wrote_byte p q b h g o e =
       put = record { bytes = o ∙ w.bytes; behind = e };
     }
 
-pub wrote_bytes : (p q : Page) (s ys : List ℕ) → p.at + length s ≤ length p.out.now → ys ≡ s → q.out.ghost_name ≡ p.out.ghost_name
-    → q.out.now ≡ put_mid p.at (p.at + length s - p.at) p.out.now ys → q.at ≡ p.at + length s → Wrote p s q
-unfolding written
-wrote_bytes p q s ys h y g o e =
-    let n : p.at + length s - p.at ≡ length s = omega arith in
-    let b : q.out.now ≡ written p.out.now p.at s = o ∙ rw (y, n) (ap (λ (x : List ℕ). take p.at p.out.now ++ (s ++ x)) (drop-drop (length s) p.at p.out.now)) in
-    record { same_reference = g; room = h; long = ap length b ∙ written_length p.out.now p.at s h; put = record { bytes = b; behind = e } }
-
 -- one thing behind another
 pub wrote_then : {p q r : Page} {s u : List ℕ} → Wrote p s q → Wrote q u r → Wrote p (s ++ u) r
 wrote_then {p} {q} {r} {s} {u} a b =
@@ -91,6 +82,10 @@ wrote_then {p} {q} {r} {s} {u} a b =
       long = b.long ∙ a.long;
       put = put_then _ _ s _ _ u _ _ a.room a.put b.put;
     }
+
+-- one byte more of a list of bytes
+pub wrote_next : {p q r : Page} (s : List ℕ) (i : ℕ) → i < length s → Wrote p (take i s) q → Wrote q (get_or s i 0 ∷ []) r → Wrote p (take (i + 1) s) r
+wrote_next s i l a b = rw (add-one i, take-suc s i 0 l) (wrote_then a b)
 
 -- on a page that was empty
 pub put_page : {p q : Page} {s d d' : List ℕ} {e : ℕ} → p.out.now ≡ d → p.at ≡ 0 → Wrote p s q → d' ≡ q.out.now → e ≡ q.at → Put d 0 s d' e

@@ -105,7 +105,7 @@ pub table_parts : (t : Table) (word : List ℕ) (n : ℕ) (names : List (List �
 unfolding table_text
 table_parts t word n names ws = simp length-append (omega arith)
 
--- three, four and seven things one behind the other
+-- three and four things one behind the other
 pub wrote_header : {p q r t : Page} {key : List ℕ} (v : ℕ) → Wrote p key q → Wrote q (decimal v) r → Wrote r (10 ∷ []) t → Wrote p (header_text key v) t
 unfolding header_text
 wrote_header v a b c = wrote_line a b c
@@ -118,14 +118,7 @@ pub wrote_row_text : {p q r t u : Page} (ins outs : ℕ → ℕ → ℕ) (n w : 
 unfolding row_text
 wrote_row_text ins outs n w a b c d = wrote_then a (wrote_then b (wrote_then c d))
 
-pub wrote_table_text : {p a b c d e f q : Page} (t : Table) (word : List ℕ) (n : ℕ) (names : List (List ℕ)) (ws : List ℕ)
-    → Wrote p (header_text (46 ∷ 105 ∷ 32 ∷ []) n) a → Wrote a (header_text (46 ∷ 111 ∷ 32 ∷ []) n) b → Wrote b (name_lines names) c
-    → Wrote c (type_text word) d → Wrote d (count_text t.counted (length ws)) e
-    → Wrote e (rows_text (column_byte t.ins) (column_byte t.outs) n ws) f → Wrote f (46 ∷ 101 ∷ 10 ∷ []) q → Wrote p (table_text t word n names ws) q
-unfolding table_text
-wrote_table_text t word n names ws i o m y k r u = wrote_then i (wrote_then o (wrote_then m (wrote_then y (wrote_then k (wrote_then r u)))))
-
--- the same of lent bytes and places
+-- seven things one behind the other, of lent bytes and places
 module _ (d : List ℕ) (at : ℕ) where
   pub put_table_text : (t : Table) (word : List ℕ) (n : ℕ) (names : List (List ℕ)) (ws d₁ : List ℕ) (a : ℕ) (d₂ : List ℕ) (b : ℕ) (d₃ : List ℕ) (c : ℕ) (d₄ : List ℕ) (e : ℕ) (d₅ : List ℕ) (f : ℕ) (d₆ : List ℕ) (g : ℕ) (d₇ : List ℕ) (k : ℕ)
       → at + length (table_text t word n names ws) ≤ length d
@@ -146,6 +139,38 @@ module _ (d : List ℕ) (at : ℕ) where
       (put_then d₃ c _ d₄ e _ d₇ k (omega (arith, i.behind, o.behind, m.behind)) y
       (put_then d₄ e _ d₅ f _ d₇ k (omega (arith, i.behind, o.behind, m.behind, y.behind)) p
       (put_then d₅ f _ d₆ g _ d₇ k (omega (arith, i.behind, o.behind, m.behind, y.behind, p.behind)) r u)))))
+
+-- the same on a page
+pub wrote_table_text : {p a b c d e f q : Page} (t : Table) (word : List ℕ) (n : ℕ) (names : List (List ℕ)) (ws : List ℕ)
+    → Wrote p (header_text (46 ∷ 105 ∷ 32 ∷ []) n) a → Wrote a (header_text (46 ∷ 111 ∷ 32 ∷ []) n) b → Wrote b (name_lines names) c
+    → Wrote c (type_text word) d → Wrote d (count_text t.counted (length ws)) e
+    → Wrote e (rows_text (column_byte t.ins) (column_byte t.outs) n ws) f → Wrote f (46 ∷ 101 ∷ 10 ∷ []) q → Wrote p (table_text t word n names ws) q
+wrote_table_text {p} {a} {b} {c} {d} {e} {f} {q} t word n names ws i o m y k r u =
+    let fits : p.at + length (table_text t word n names ws) ≤ length p.out.now =
+    omega (
+      arith,
+      table_parts t word n names ws,
+      i.put.behind,
+      o.put.behind,
+      m.put.behind,
+      y.put.behind,
+      k.put.behind,
+      r.put.behind,
+      u.room,
+      i.long,
+      o.long,
+      m.long,
+      y.long,
+      k.long,
+      r.long,
+    ) in
+    record {
+      same_reference =
+          u.same_reference ∙ r.same_reference ∙ k.same_reference ∙ y.same_reference ∙ m.same_reference ∙ o.same_reference ∙ i.same_reference;
+      room = fits;
+      long = u.long ∙ r.long ∙ k.long ∙ y.long ∙ m.long ∙ o.long ∙ i.long;
+      put = put_table_text p.out.now p.at t word n names ws _ _ _ _ _ _ _ _ _ _ _ _ _ _ fits i.put o.put m.put y.put k.put r.put u.put;
+    }
 
 -- the length of the text is known before it is written
 pub table_length : (t : Table) (word : List ℕ) (n : ℕ) (names : List (List ℕ)) (ws : List ℕ) → length (table_text t word n names ws) ≡ text_length t word n names (length ws)
