@@ -16,7 +16,7 @@ use Rattle.headers.specs.declared.Layout.{Layout}
 
 -- ---- the search
 
-only_here : (f h x : ℕ) → 1 ≤ f → x ≡ 2 ^ h → only_from f h x ≡ h
+pub only_here : (f h x : ℕ) → 1 ≤ f → x ≡ 2 ^ h → only_from f h x ≡ h
 unfolding only_from
 only_here zero h x l e = absurd (omega arith)
 only_here (suc f) h x l e = rw (eq-eqb x (2 ^ h) e)

@@ -2,7 +2,7 @@
 use Prim.Native.Nat.{ℕ, ◌+◌, ◌-◌, ◌≤◌, ◌<◌}
 use mathlib.Core.Path.{◌≡◌, refl, ◌∙◌, ap}
 use mathlib.Core.List.{List, []}
-use mathlib.Core.Bool.{Bool, true, false, cond}
+use mathlib.Core.Bool.{Bool, true, false, false≢true, cond}
 use native.Mathlib.Omega.{arith}
 use native.Mathlib.Nat.{add-sub_cancel_left}
 use lib.Dec.{ltb}
@@ -68,6 +68,18 @@ source_cases_of panel maker s (Named l) v p q h = let e : record { maker = false
 pub source_is : (panel maker : List ℕ) (s : Source) → source_of panel maker ≡ Some s → naming_of (cond s.maker maker panel) ≡ Named s.names
 unfolding source_of
 source_is panel maker s h = source_cases_of panel maker s (naming_of panel) (naming_of maker) refl refl h
+
+maker_cases : (panel maker : List ℕ) (s : Source) (w v : Naming) → naming_of panel ≡ w → naming_of maker ≡ v → source_for w v ≡ Some s → s.maker ≡ true → (naming_of panel ≡ Nameless) × (naming_of maker ≡ Named s.names)
+maker_cases panel maker s Refused v p q h m = absurd (none-some s h)
+maker_cases panel maker s Nameless Refused p q h m = absurd (none-some s h)
+maker_cases panel maker s Nameless Nameless p q h m = absurd (none-some s h)
+maker_cases panel maker s Nameless (Named l) p q h m = let e : record { maker = true; names = l } ≡ s = cc in (p, rw (← e) q)
+maker_cases panel maker s (Named l) v p q h m = let e : record { maker = false; names = l } ≡ s = cc in absurd (false≢true (ap (λ (x : Source). x.maker) e ∙ m))
+
+-- the maker's line is used only where the panel's text is good and has none
+pub source_maker : (panel maker : List ℕ) (s : Source) → source_of panel maker ≡ Some s → s.maker ≡ true → (naming_of panel ≡ Nameless) × (naming_of maker ≡ Named s.names)
+unfolding source_of
+source_maker panel maker s h = maker_cases panel maker s (naming_of panel) (naming_of maker) refl refl h
 
 -- by what the panel's text says
 pub source_nameless : (panel maker : List ℕ) → naming_of panel ≡ Nameless → makers_source (naming_of maker) ≡ source_of panel maker
